@@ -2,5 +2,5 @@ mod FaultLemmas
 pub mod Lemmas
 mod OperationsLemmas
 mod PathLemmas
+mod PrintingLemmas
 mod ProofObjectLemmas
-mod ReplyLemmas

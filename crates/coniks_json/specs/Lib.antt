@@ -4,6 +4,7 @@ pub mod Members
 pub mod Objects
 pub mod Operations
 pub mod Paths
+pub mod Printing
 pub mod ProofObjects
 pub mod ProofTexts
 pub mod Refusals

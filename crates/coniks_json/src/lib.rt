@@ -7,10 +7,11 @@
 //!     return Ok(());
 //! };
 //! let name = text(&line, "name").unwrap_or("");
-//! object(alloc, &[Field("ok", Shown::Text(name))])?.print(alloc, &mut out)?;
+//! object(alloc, &[Field("ok", Shown::Text(name))])?.print(&mut out)?;
 //! ```
 #![tactic(auto)]
 
+mod digits;
 pub mod entries;
 pub mod fault;
 pub mod members;

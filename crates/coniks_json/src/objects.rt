@@ -1,21 +1,28 @@
 //! Objects that are printed, by their members.
 
-ghost use Rattle.std.specs.Prelude.{◌≡◌, IfOk};
-ghost use Rattle.serde_json.specs.Data.{no_members, object as object_of};
-ghost use Rattle.serde_json.specs.View.{members_view, view};
-ghost use Rattle.coniks_json.specs.Objects.{data_of, with_all};
+ghost use Rattle.std.specs.Prelude.{◌≡◌, IfOk, OnOk};
+ghost use Rattle.serde_json.specs.Data.{object as object_of};
+ghost use Rattle.serde_json.specs.Written.{compact_text};
+ghost use Rattle.coniks_json.specs.Objects.{data_of, members_of};
+ghost use Rattle.coniks_json.specs.Printing.{Writes, WritesMember};
 
+use crate::digits::{write_digest, write_digits, write_entry};
 use crate::printable::Printable;
-use crate::proof_text::proof_value;
+use crate::proof_text::write_proof;
 use base64::engine::general_purpose::STANDARD;
 use coniks_chain::Entry;
 use coniks_proof::Proof;
-use serde_json::{Map, Value, put};
+use json::Writer;
 use std::alloc::{AllocError, Global};
+
+/// The bytes that are allocated for an object at first. Most replies to lookups are shorter.
+const ROOM: usize = 2560;
 
 /// The value of a member.
 #[derive(Clone, Copy)]
 pub enum Shown<'a> {
+    /// 32 bytes, in lower case hexadecimal digits.
+    Digest(&'a [u8; 32]),
     /// Bytes, in lower case hexadecimal digits.
     Digits(&'a [u8]),
     /// An entry's bytes, in lower case hexadecimal digits.
@@ -34,45 +41,52 @@ pub enum Shown<'a> {
 #[derive(Clone, Copy)]
 pub struct Field<'a>(pub &'a str, pub Shown<'a>);
 
-/// Returns the JSON value of a member.
+/// Writes the value of a member.
+fn write_value(alloc: Global, shown: Shown<'_>, writer: &mut Writer) -> Result<(), AllocError>
+    ensures { OnOk result (Writes writer.old writer.new (data_of shown.entry)) }
+{
+    match shown {
+        Shown::Digest(bytes) => write_digest(bytes, writer),
+        Shown::Digits(bytes) => write_digits(alloc, bytes, writer),
+        Shown::Entry(entry) => write_entry(entry, writer),
+        Shown::Base64(bytes) => writer.string(STANDARD.encode(alloc, bytes)?.as_str()),
+        Shown::Text(text) => writer.string(text),
+        Shown::Number(number) => writer.u64(number),
+        Shown::Proof(proof) => write_proof(alloc, proof, writer),
+    }
+}
+
+/// Writes the object of these members, in their order.
 ///
 /// # Errors
 ///
-/// `AllocError` if an allocation fails.
-pub fn value_of(alloc: Global, shown: Shown<'_>) -> Result<Value, AllocError>
-    ensures { IfOk result (λ value. view value ≡ data_of shown.entry) }
+/// `AllocError` if an allocation fails. What is written is then unspecified.
+pub fn write_object(
+    alloc: Global,
+    fields: &[Field<'_>],
+    writer: &mut Writer,
+) -> Result<(), AllocError>
+    ensures { OnOk result (Writes writer.old writer.new (object_of (members_of fields.now))) }
 {
-    match shown {
-        Shown::Digits(bytes) => Ok(Value::String(hex::encode(alloc, bytes)?)),
-        Shown::Entry(entry) => Ok(Value::String(hex::encode(alloc, &entry.bytes())?)),
-        Shown::Base64(bytes) => Ok(Value::String(STANDARD.encode(alloc, bytes)?)),
-        Shown::Text(text) => Ok(Value::String(String::from_str(alloc, text)?)),
-        Shown::Number(number) => Ok(Value::from(number)),
-        Shown::Proof(proof) => proof_value(alloc, proof),
-    }
-}
-
-/// Returns the members, in the order of their names' bytes.
-fn members(alloc: Global, fields: &[Field<'_>]) -> Result<Map<String, Value>, AllocError>
-    ensures { IfOk result (λ map. members_view map.entries ≡ with_all fields.now no_members) }
-{
-    let mut map = Map::new(alloc);
+    writer.begin_object()?;
     for field in fields {
-        let value = value_of(alloc, field.1)?;
-        put(&mut map, alloc, field.0, value)?;
+        writer.key(field.0)?;
+        write_value(alloc, field.1, writer)?;
     }
-    Ok(map)
+    writer.end_object()
 }
 
-/// Returns the object of these members.
+/// Returns the object of these members, in their order.
 ///
 /// # Errors
 ///
 /// `AllocError` if an allocation fails.
 pub fn object(alloc: Global, fields: &[Field<'_>]) -> Result<Printable, AllocError>
-    ensures { IfOk result (λ object. view object.value ≡ object_of (with_all fields.now no_members)) }
+    ensures { IfOk result (λ object. object.text.items ≡ compact_text (object_of (members_of fields.now))) }
 {
+    let mut writer = Writer::new(Vec::with_capacity(alloc, ROOM)?);
+    write_object(alloc, fields, &mut writer)?;
     Ok(Printable {
-        value: Value::Object(members(alloc, fields)?),
+        text: writer.into_inner(),
     })
 }

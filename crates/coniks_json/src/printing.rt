@@ -1,8 +1,8 @@
 //! Members of lines, and the objects that all engines print.
 
 ghost use Rattle.std.specs.Prelude.{◌≡◌, IfOk, codes};
-ghost use Rattle.serde_json.specs.Data.{member, no_members, put, string, object as object_of};
-ghost use Rattle.serde_json.specs.View.{view};
+ghost use Rattle.serde_json.specs.Data.{member, no_members, string, object as object_of};
+ghost use Rattle.serde_json.specs.Written.{compact_text};
 ghost use Rattle.coniks_json.specs.Objects.{data_of};
 ghost use Rattle.coniks_json.specs.Replies.{bad_member_data, fault_data, member_name};
 
@@ -57,7 +57,7 @@ pub fn member_text(member: Member) -> &'static str
 ///
 /// `AllocError` if an allocation fails.
 pub fn fault(alloc: Global, name: &str) -> Result<Printable, AllocError>
-    ensures { IfOk result (λ object. view object.value ≡ fault_data name.now) }
+    ensures { IfOk result (λ object. object.text.items ≡ compact_text (fault_data name.now)) }
 {
     object(alloc, &[Field("fault", Shown::Text(name))])
 }
@@ -68,19 +68,19 @@ pub fn fault(alloc: Global, name: &str) -> Result<Printable, AllocError>
 ///
 /// `AllocError` if an allocation fails.
 pub fn bad_member(alloc: Global, name: &str) -> Result<Printable, AllocError>
-    ensures { IfOk result (λ object. view object.value ≡ bad_member_data name.now) }
+    ensures { IfOk result (λ object. object.text.items ≡ compact_text (bad_member_data name.now)) }
 {
     fault_with(alloc, "Member", Field("member", Shown::Text(name)))
 }
 
-/// Returns a refusal that contains its error and one more member.
+/// Returns a refusal that contains its error and one more member, whose name is after `fault` in the order of bytes.
 ///
 /// # Errors
 ///
 /// `AllocError` if an allocation fails.
 pub fn fault_with(alloc: Global, name: &str, more: Field<'_>) -> Result<Printable, AllocError>
-    ensures { IfOk result (λ object. view object.value ≡ object_of
-        (put more.entry.0.now (data_of more.entry.1) (member (codes "fault") (string name.now) no_members))) }
+    ensures { IfOk result (λ object. object.text.items ≡ compact_text (object_of
+        (member (codes "fault") (string name.now) (member more.entry.0.now (data_of more.entry.1) no_members)))) }
 {
     object(alloc, &[Field("fault", Shown::Text(name)), more])
 }

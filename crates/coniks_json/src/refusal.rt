@@ -1,7 +1,7 @@
 //! Why a line is refused.
 
 ghost use Rattle.std.specs.Prelude.{◌≡◌, IfOk, Some};
-ghost use Rattle.serde_json.specs.View.{view};
+ghost use Rattle.serde_json.specs.Written.{compact_text};
 ghost use Rattle.coniks_json.specs.Refusals.{IsRefusable, refusal_data, refusal_of, refused_as};
 
 use crate::printable::Printable;
@@ -46,7 +46,7 @@ impl Refusal {
     ///
     /// `AllocError` if an allocation fails.
     pub fn object(self, alloc: Global) -> Result<Printable, AllocError>
-        ensures { IfOk result (λ object. view object.value ≡ refusal_data (refusal_of self)) }
+        ensures { IfOk result (λ object. object.text.items ≡ compact_text (refusal_data (refusal_of self))) }
     {
         match self {
             Refusal::NotJson => fault(alloc, "Json"),

@@ -1,7 +1,7 @@
 //! Replies that several engines print.
 
 ghost use Rattle.std.specs.Prelude.{◌≡◌, IfOk};
-ghost use Rattle.serde_json.specs.View.{view};
+ghost use Rattle.serde_json.specs.Written.{compact_text};
 ghost use Rattle.coniks_directory.specs.Batches.{fault_is};
 ghost use Rattle.coniks_json.specs.Paths.{path_of};
 ghost use Rattle.coniks_json.specs.Replies.{bad_operation_data, epoch_not_later_data, fault_name, looked_up_data, opened_data, placed_fault_data};
@@ -32,7 +32,7 @@ pub fn fault_text(fault: OpFault) -> &'static str
 ///
 /// `AllocError` if an allocation fails.
 pub fn opened(alloc: Global) -> Result<Printable, AllocError>
-    ensures { IfOk result (λ object. view object.value ≡ opened_data) }
+    ensures { IfOk result (λ object. object.text.items ≡ compact_text opened_data) }
 {
     object(alloc, &[Field("ok", Shown::Text("open"))])
 }
@@ -47,7 +47,7 @@ pub fn looked_up<'a>(
     name: &'a str,
     found: &'a SignedProof,
 ) -> Result<Printable, AllocError>
-    ensures { IfOk result (λ object. view object.value ≡ looked_up_data found.now.entry found.now.index.0 name.now (path_of found.now.proof)) }
+    ensures { IfOk result (λ object. object.text.items ≡ compact_text (looked_up_data found.now.entry found.now.index.0 name.now (path_of found.now.proof))) }
 {
     let body = &found.entry.body;
     object(
@@ -55,12 +55,12 @@ pub fn looked_up<'a>(
         &[
             Field("entry", Shown::Entry(&found.entry)),
             Field("epoch", Shown::Number(body.t)),
-            Field("index", Shown::Digits(&found.index.0)),
+            Field("index", Shown::Digest(&found.index.0)),
             Field("name", Shown::Text(name)),
-            Field("nonce", Shown::Digits(&body.nonce.0)),
+            Field("nonce", Shown::Digest(&body.nonce.0)),
             Field("ok", Shown::Text("lookup")),
             Field("proof", Shown::Proof(&found.proof)),
-            Field("root", Shown::Digits(&body.root.0)),
+            Field("root", Shown::Digest(&body.root.0)),
         ],
     )
 }
@@ -71,7 +71,7 @@ pub fn looked_up<'a>(
 ///
 /// `AllocError` if an allocation fails.
 pub fn placed_fault(alloc: Global, name: &str, position: usize) -> Result<Printable, AllocError>
-    ensures { IfOk result (λ object. view object.value ≡ placed_fault_data name.now position) }
+    ensures { IfOk result (λ object. object.text.items ≡ compact_text (placed_fault_data name.now position)) }
 {
     fault_with(
         alloc,
@@ -86,7 +86,7 @@ pub fn placed_fault(alloc: Global, name: &str, position: usize) -> Result<Printa
 ///
 /// `AllocError` if an allocation fails.
 pub fn bad_operation(alloc: Global, position: usize) -> Result<Printable, AllocError>
-    ensures { IfOk result (λ object. view object.value ≡ bad_operation_data position) }
+    ensures { IfOk result (λ object. object.text.items ≡ compact_text (bad_operation_data position)) }
 {
     object(
         alloc,
@@ -104,7 +104,7 @@ pub fn bad_operation(alloc: Global, position: usize) -> Result<Printable, AllocE
 ///
 /// `AllocError` if an allocation fails.
 pub fn epoch_not_later(alloc: Global, latest: u64) -> Result<Printable, AllocError>
-    ensures { IfOk result (λ object. view object.value ≡ epoch_not_later_data latest) }
+    ensures { IfOk result (λ object. object.text.items ≡ compact_text (epoch_not_later_data latest)) }
 {
     fault_with(
         alloc,

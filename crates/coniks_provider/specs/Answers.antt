@@ -4,7 +4,8 @@ use Rattle.std.specs.Str.Lossy.{utf8_lossy}
 use Rattle.std.specs.String.{string_bytes}
 use Rattle.coniks_proof.specs.Octets.{Octets}
 use Rattle.serde_json.specs.Data.{Data, array, boolean, string, number, unsigned, object, member, no_members}
-use Rattle.serde_json.specs.View.{items_of, view}
+use Rattle.serde_json.specs.View.{items_of}
+use Rattle.serde_json.specs.Written.{compact_text}
 use Rattle.base64.specs.Engines.{standard}
 use Rattle.base64.specs.GeneralPurpose.{encode_of}
 use Rattle.coniks_chain.specs.Entries.{body_bytes, entry_bytes}
@@ -32,7 +33,7 @@ pub data ProviderOutcome : Type 0 where
   -- the latest epoch, its entry's link, and how many names and nodes there are
   at_latest : (epoch : ℕ) (link : Octets) (names nodes : ℕ) → ProviderOutcome
   -- a page of bindings, as it is printed
-  listed : Data → ProviderOutcome
+  listed : (text : Octets) → ProviderOutcome
   -- a restore has begun
   restore_begun : ProviderOutcome
   -- bindings were added to a restore: how many names it has
@@ -70,7 +71,7 @@ provider_outcome_of (reply.Prepared body nodes) = prepared body nodes
 provider_outcome_of (reply.Installed entry link) = installed entry link.0
 provider_outcome_of (reply.LookedUp name found) = looked_up found.entry found.index.0 (string_bytes name) (path_of found.proof)
 provider_outcome_of (reply.Latest epoch link names nodes) = at_latest epoch link.0 names nodes
-provider_outcome_of (reply.Bindings page) = listed (view page.value)
+provider_outcome_of (reply.Bindings page) = listed page.text.items
 provider_outcome_of reply.Restore = restore_begun
 provider_outcome_of (reply.Restoring names) = bindings_added names
 provider_outcome_of (reply.Restored entry link) = restored entry link.0
@@ -151,26 +152,26 @@ bad_binding_data place =
     (member (codes "member") (string (codes "bindings"))
     (member (codes "position") (number (unsigned place)) no_members)))
 
--- what is printed for what comes of a line
-abbrev pub provider_reply_data : ProviderOutcome → Data
-provider_reply_data opened = opened_data
-provider_reply_data (prepared body nodes) = prepared_data body nodes
-provider_reply_data (installed entry link) = entry_data (codes "install") entry link
-provider_reply_data (looked_up entry index name path) = looked_up_data entry index name path
-provider_reply_data (at_latest epoch link names nodes) = latest_data epoch link names nodes
-provider_reply_data (listed page) = page
-provider_reply_data restore_begun = restore_begun_data
-provider_reply_data (bindings_added names) = restoring_data names
-provider_reply_data (restored entry link) = entry_data (codes "restored") entry link
-provider_reply_data (because why) = refusal_data why
-provider_reply_data (bad_binding place) = bad_binding_data place
-provider_reply_data not_restoring = fault_data (codes "NotRestoring")
-provider_reply_data not_later = fault_data (codes "NotLater")
-provider_reply_data bad_version = fault_data (codes "Version")
-provider_reply_data root_differs = fault_data (codes "RootDiffers")
-provider_reply_data (other_index_at place) = placed_fault_data (codes "OtherIndex") place
-provider_reply_data not_prepared = fault_data (codes "NotPrepared")
-provider_reply_data bad_index = fault_data (codes "OtherIndex")
+-- the text that is printed for what comes of a line: an object as JSON (RFC 8259) without white space
+abbrev pub provider_reply_text : ProviderOutcome → Octets
+provider_reply_text opened = compact_text opened_data
+provider_reply_text (prepared body nodes) = compact_text (prepared_data body nodes)
+provider_reply_text (installed entry link) = compact_text (entry_data (codes "install") entry link)
+provider_reply_text (looked_up entry index name path) = compact_text (looked_up_data entry index name path)
+provider_reply_text (at_latest epoch link names nodes) = compact_text (latest_data epoch link names nodes)
+provider_reply_text (listed text) = text
+provider_reply_text restore_begun = compact_text restore_begun_data
+provider_reply_text (bindings_added names) = compact_text (restoring_data names)
+provider_reply_text (restored entry link) = compact_text (entry_data (codes "restored") entry link)
+provider_reply_text (because why) = compact_text (refusal_data why)
+provider_reply_text (bad_binding place) = compact_text (bad_binding_data place)
+provider_reply_text not_restoring = compact_text (fault_data (codes "NotRestoring"))
+provider_reply_text not_later = compact_text (fault_data (codes "NotLater"))
+provider_reply_text bad_version = compact_text (fault_data (codes "Version"))
+provider_reply_text root_differs = compact_text (fault_data (codes "RootDiffers"))
+provider_reply_text (other_index_at place) = compact_text (placed_fault_data (codes "OtherIndex") place)
+provider_reply_text not_prepared = compact_text (fault_data (codes "NotPrepared"))
+provider_reply_text bad_index = compact_text (fault_data (codes "OtherIndex"))
 
 -- the line was accepted
 abbrev pub is_accepted_line : ProviderOutcome → Bool

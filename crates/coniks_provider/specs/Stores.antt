@@ -18,7 +18,7 @@ use Rattle.coniks_provider.specs.Limits.{most_provider_epochs}
 use Rattle.coniks_json.specs.Turns.{refused}
 use Rattle.coniks_provider.specs.Answers.{ProviderOutcome, because, other_index_at, provider_outcome_of, restore_begun}
 use Rattle.coniks_provider.specs.Turns.{BatchLine, ProviderDirectory, Pending, ProviderState, ProviderTurn, Restore, nothing, restoring, serving}
-use Rattle.coniks_directory.specs.declared.supplied_batch.SuppliedBatch.{SuppliedBatch}
+use Rattle.coniks_directory.specs.declared.supplied_batch.OwnedBatch.{OwnedBatch}
 use Rattle.coniks_provider.specs.declared.reply.Reply.{Reply}
 use Rattle.coniks_provider.specs.declared.restoring.Restore.{Restore as Restoring}
 use Rattle.coniks_provider.specs.declared.service.Pending.{Pending as Update}
@@ -31,8 +31,8 @@ abbrev pub DirectoryView : Type 0 → Type 0
 DirectoryView H = View H (List Supplied)
 
 -- a batch that was read
-abbrev pub batch_line_of : ℕ → SuppliedBatch → BatchLine
-batch_line_of epoch b = record { epoch = epoch; new_nonce = nonce_bytes b.nonce; ops = indexed b.ops.now b.indices.now }
+abbrev pub batch_line_of : ℕ → OwnedBatch → BatchLine
+batch_line_of epoch b = record { epoch = epoch; new_nonce = nonce_bytes b.nonce; ops = indexed b.ops.items b.indices.items }
 
 -- an update of a directory
 abbrev pub pending_of : {H : Type 0} → DirectoryView H → Update → Pending

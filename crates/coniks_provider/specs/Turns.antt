@@ -3,6 +3,7 @@ use Rattle.std.specs.Prelude.{◌==◌, ℕ, ◌+◌, List, [], ◌∷◌, ◌++
 use Rattle.std.specs.Option.{option_map_or}
 use Rattle.std.specs.Str.{bytes_eq}
 use Rattle.serde_json.specs.Data.{Data, Items}
+use Rattle.serde_json.specs.Written.{compact_text}
 use Rattle.coniks_lines.specs.Machine.{Answer}
 use Rattle.coniks_proof.specs.Sha256.{sha256}
 use Rattle.coniks_proof.specs.Batches.{Fault, Operation, after, bound_by, fault_from, fits}
@@ -26,11 +27,11 @@ use Rattle.coniks_directory.specs.SuppliedBatches.{Indexed, SuppliedFault, index
 use Rattle.coniks_json.specs.EntryLines.{entry_in}
 use Rattle.coniks_json.specs.Members.{array_in, digits_in, given, if_there, number_in, object_in, text_in}
 use Rattle.coniks_json.specs.Paths.{path_to}
-use Rattle.coniks_json.specs.Turns.{Turn, answer_by, refused}
+use Rattle.coniks_json.specs.Turns.{Turn, refused}
 use Rattle.coniks_json.specs.declared.printing.Member.TheVariants.{Nonce, Policy, Epoch, Ops, Name, Index as IndexMember, Signature, Entry as EntryMember, After, Most, Bindings as BindingsMember}
 use Rattle.coniks_json.specs.Refusals.{already_open, bad_batch, bad_member, bad_name_length, bad_operation, batch_too_long, board_full, epoch_not_later, no_command, not_json, not_open, unknown_epoch}
 use Rattle.coniks_provider.specs.Answers.{ProviderOutcome, at_latest, bad_binding, bad_index, bad_supplied, bad_version, because, bindings_added, installed, is_accepted_line, listed, looked_up, not_later}
-use Rattle.coniks_provider.specs.Answers.{not_prepared, not_restoring, opened, page_data, prepared, provider_reply_data, restore_begun, restored, root_differs}
+use Rattle.coniks_provider.specs.Answers.{not_prepared, not_restoring, opened, page_data, prepared, provider_reply_text, restore_begun, restored, root_differs}
 use Rattle.coniks_provider.specs.Limits.{most_provider_epochs}
 use Rattle.coniks_provider.specs.Lines.{batch_in}
 use Rattle.coniks_provider.specs.declared.operations.Elements.TheVariants.{Operations, Bindings}
@@ -253,7 +254,7 @@ most_in d = given (number_in (codes "most") d) (λ most. if nat_le 1 most && nat
 
 -- the first of the bindings that were looked for, and whether there are more
 abbrev pub page_of_found : ℕ → ℕ → List IndexedBinding → ProviderOutcome
-page_of_found number most found = listed (page_data number (take most found) (nat_lt most (length found)))
+page_of_found number most found = listed (compact_text (page_data number (take most found) (nat_lt most (length found))))
 
 -- the index that bytes are
 abbrev pub index_of_bytes : Octets → Index
@@ -419,4 +420,6 @@ provider_turn s line = option_map_or (λ d. provider_command_turn s d (text_in (
 
 -- the reply to a line
 abbrev pub provider_answer : ProviderState → Octets → Answer ProviderState
-provider_answer s line = answer_by provider_reply_data is_accepted_line (provider_turn s line)
+provider_answer s line =
+    let t = provider_turn s line in
+    record { text = provider_reply_text t.outcome; accepted = is_accepted_line t.outcome; state = t.state }

@@ -14,7 +14,7 @@ ghost use Rattle.coniks_provider.specs.Turns.{bindings_outcome, install_turn, mo
 use crate::operations::{Elements, read_operations};
 use crate::reply::Reply;
 use crate::store::Store;
-use coniks_directory::SuppliedBatch;
+use coniks_directory::OwnedBatch;
 use coniks_json::entries::read_entry;
 use coniks_json::fault::{RunFault, of_run};
 use coniks_json::members::{
@@ -90,12 +90,12 @@ impl<'r, T: Threads + Sync> Providing<'r, T> {
         };
         match read_operations(self.alloc, Elements::Operations, elements)? {
             Ok(read) => {
-                let batch = SuppliedBatch {
+                let batch = OwnedBatch {
                     nonce: nonce_of(new_nonce),
-                    ops: &read.ops,
-                    indices: &read.indices,
+                    ops: read.ops,
+                    indices: read.indices,
                 };
-                self.store.prepare(self.rt, self.parallelism, epoch, &batch)
+                self.store.prepare(self.rt, self.parallelism, epoch, batch)
             }
             Err(place) => Ok(Reply::Refused(Refusal::BadOperation(place))),
         }
@@ -227,7 +227,7 @@ impl<'r, T: Threads + Sync> LineMachine for Providing<'r, T> {
             None => Reply::Refused(Refusal::NotJson),
         };
         let is_accepted = reply.is_accepted();
-        reply.object(self.alloc)?.print(self.alloc, out)?;
+        reply.object(self.alloc)?.print(out)?;
         Ok(is_accepted)
     }
 }

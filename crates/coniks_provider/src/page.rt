@@ -1,59 +1,78 @@
 //! A page of bindings, as it is printed.
 
-ghost use Rattle.std.specs.Prelude.{◌≡◌, IfOk, map};
-ghost use Rattle.serde_json.specs.View.{view};
+ghost use Rattle.std.specs.Prelude.{◌≡◌, IfOk, OnOk, map};
+ghost use Rattle.serde_json.specs.Data.{array};
+ghost use Rattle.serde_json.specs.View.{items_of};
+ghost use Rattle.serde_json.specs.Written.{compact_text};
 ghost use Rattle.coniks_directory.specs.Bindings.{indexed_binding};
+ghost use Rattle.coniks_json.specs.Printing.{Writes};
 ghost use Rattle.coniks_provider.specs.Answers.{binding_data, page_data};
 
 use coniks_directory::IndexedBinding;
-use coniks_json::objects::{Field, Shown, object};
+use coniks_json::objects::{Field, Shown, write_object};
 use coniks_json::printable::Printable;
-use serde_json::{Value, json};
+use json::Writer;
 use std::alloc::{AllocError, Global};
 
-/// Returns the object of a binding.
-fn binding_value(alloc: Global, binding: &IndexedBinding<'_>) -> Result<Value, AllocError>
-    ensures { IfOk result (λ value. view value ≡ binding_data (indexed_binding binding.now)) }
+/// The bytes that are allocated for each binding of a page at first. The digits and names of a binding take 171.
+const BINDING_ROOM: usize = 256;
+
+/// Writes the object of a binding.
+fn write_binding(
+    alloc: Global,
+    binding: &IndexedBinding<'_>,
+    writer: &mut Writer,
+) -> Result<(), AllocError>
+    ensures { OnOk result (Writes writer.old writer.new (binding_data (indexed_binding binding.now))) }
 {
     let name = String::from_utf8_lossy(alloc, binding.name)?;
-    let shown = object(
+    write_object(
         alloc,
         &[
-            Field("index", Shown::Digits(&binding.index.0)),
+            Field("index", Shown::Digest(&binding.index.0)),
             Field("key", Shown::Base64(binding.key)),
             Field("name", Shown::Text(name.as_str())),
-            Field("opening", Shown::Digits(&binding.opening.0)),
+            Field("opening", Shown::Digest(&binding.opening.0)),
         ],
-    )?;
-    Ok(shown.value)
+        writer,
+    )
 }
 
-/// Returns the objects of bindings, in their order.
-fn binding_values(alloc: Global, page: &[IndexedBinding<'_>]) -> Result<Vec<Value>, AllocError>
-    ensures { IfOk result (λ values. map view values.items ≡ map binding_data (map indexed_binding page.now)) }
+/// Writes the array of bindings, in their order.
+fn write_bindings(
+    alloc: Global,
+    page: &[IndexedBinding<'_>],
+    writer: &mut Writer,
+) -> Result<(), AllocError>
+    ensures { OnOk result (Writes writer.old writer.new (array (items_of (map binding_data (map indexed_binding page.now))))) }
 {
-    let mut values = Vec::with_capacity(alloc, page.len())?;
+    writer.begin_array()?;
     for binding in page {
-        values.push(binding_value(alloc, binding)?)?;
+        write_binding(alloc, binding, writer)?;
     }
-    Ok(values)
+    writer.end_array()
 }
 
-/// Returns the JSON value of a page.
-fn page_value(
+/// Writes the object of a page.
+fn write_page(
     alloc: Global,
     epoch: u64,
     page: &[IndexedBinding<'_>],
     more: bool,
-) -> Result<Value, AllocError>
-    ensures { IfOk result (λ value. view value ≡ page_data epoch (map indexed_binding page.now) more) }
+    writer: &mut Writer,
+) -> Result<(), AllocError>
+    ensures { OnOk result (Writes writer.old writer.new (page_data epoch (map indexed_binding page.now) more)) }
 {
-    json!(in alloc; {
-        "bindings": Value::Array(binding_values(alloc, page)?),
-        "epoch": epoch,
-        "more": more,
-        "ok": "bindings",
-    })
+    writer.begin_object()?;
+    writer.key("bindings")?;
+    write_bindings(alloc, page, writer)?;
+    writer.key("epoch")?;
+    writer.u64(epoch)?;
+    writer.key("more")?;
+    writer.boolean(more)?;
+    writer.key("ok")?;
+    writer.string("bindings")?;
+    writer.end_object()
 }
 
 /// Returns the object of a page of an epoch's bindings. `more` says whether others follow.
@@ -63,8 +82,12 @@ pub(crate) fn page_object(
     page: &[IndexedBinding<'_>],
     more: bool,
 ) -> Result<Printable, AllocError>
-    ensures { IfOk result (λ object. view object.value ≡ page_data epoch (map indexed_binding page.now) more) }
+    ensures { IfOk result (λ object. object.text.items ≡ compact_text (page_data epoch (map indexed_binding page.now) more)) }
 {
-    let value = page_value(alloc, epoch, page, more)?;
-    Ok(Printable { value })
+    let room = page.len().saturating_mul(BINDING_ROOM);
+    let mut writer = Writer::new(Vec::with_capacity(alloc, room)?);
+    write_page(alloc, epoch, page, more, &mut writer)?;
+    Ok(Printable {
+        text: writer.into_inner(),
+    })
 }

@@ -1,9 +1,9 @@
 //! The answers of `provider` to a line, and their text.
 
 ghost use Rattle.std.specs.Prelude.{◌≡◌, IfOk};
-ghost use Rattle.serde_json.specs.View.{view};
+ghost use Rattle.serde_json.specs.Written.{compact_text};
 ghost use Rattle.coniks_chain.specs.Entries.{body_bytes};
-ghost use Rattle.coniks_provider.specs.Answers.{bad_binding_data, entry_data, latest_data, provider_outcome_of, prepared_data, provider_reply_data, restoring_data};
+ghost use Rattle.coniks_provider.specs.Answers.{bad_binding_data, entry_data, latest_data, provider_outcome_of, prepared_data, provider_reply_text, restoring_data};
 
 use coniks_chain::{Body, Entry};
 use coniks_directory::SignedProof;
@@ -106,7 +106,7 @@ impl Reply {
 
     /// Returns the object that is printed.
     pub(crate) fn object(self, alloc: Global) -> Result<Printable, AllocError>
-        ensures { IfOk result (λ object. view object.value ≡ provider_reply_data (provider_outcome_of self)) }
+        ensures { IfOk result (λ object. object.text.items ≡ provider_reply_text (provider_outcome_of self)) }
     {
         match self {
             Reply::Opened => opened(alloc),
@@ -138,7 +138,7 @@ impl Reply {
 
 /// Returns the object of a prepared update.
 fn prepared(alloc: Global, body: &Body, nodes: usize) -> Result<Printable, AllocError>
-    ensures { IfOk result (λ object. view object.value ≡ prepared_data body.now nodes) }
+    ensures { IfOk result (λ object. object.text.items ≡ compact_text (prepared_data body.now nodes)) }
 {
     prepared_of(alloc, body, &body.bytes(), nodes)
 }
@@ -151,7 +151,7 @@ fn prepared_of<'a>(
     nodes: usize,
 ) -> Result<Printable, AllocError>
     requires { bytes.now ≡ body_bytes body.now }
-    ensures { IfOk result (λ object. view object.value ≡ prepared_data body.now nodes) }
+    ensures { IfOk result (λ object. object.text.items ≡ compact_text (prepared_data body.now nodes)) }
 {
     object(
         alloc,
@@ -160,7 +160,7 @@ fn prepared_of<'a>(
             Field("epoch", Shown::Number(body.t)),
             Field("nodes", Shown::Number(nodes as u64)),
             Field("ok", Shown::Text("prepare")),
-            Field("root", Shown::Digits(&body.root.0)),
+            Field("root", Shown::Digest(&body.root.0)),
         ],
     )
 }
@@ -172,23 +172,23 @@ fn with_entry<'a>(
     entry: &'a Entry,
     link: &'a Digest,
 ) -> Result<Printable, AllocError>
-    ensures { IfOk result (λ object. view object.value ≡ entry_data command.now entry.now link.now.0) }
+    ensures { IfOk result (λ object. object.text.items ≡ compact_text (entry_data command.now entry.now link.now.0)) }
 {
     object(
         alloc,
         &[
             Field("entry", Shown::Entry(entry)),
             Field("epoch", Shown::Number(entry.body.t)),
-            Field("link", Shown::Digits(&link.0)),
+            Field("link", Shown::Digest(&link.0)),
             Field("ok", Shown::Text(command)),
-            Field("root", Shown::Digits(&entry.body.root.0)),
+            Field("root", Shown::Digest(&entry.body.root.0)),
         ],
     )
 }
 
 /// Returns the object of a restore that has this number of names.
 fn restoring(alloc: Global, names: usize) -> Result<Printable, AllocError>
-    ensures { IfOk result (λ object. view object.value ≡ restoring_data names) }
+    ensures { IfOk result (λ object. object.text.items ≡ compact_text (restoring_data names)) }
 {
     object(
         alloc,
@@ -201,7 +201,7 @@ fn restoring(alloc: Global, names: usize) -> Result<Printable, AllocError>
 
 /// Returns the object of a binding that cannot be read, with its position.
 fn bad_binding(alloc: Global, position: usize) -> Result<Printable, AllocError>
-    ensures { IfOk result (λ object. view object.value ≡ bad_binding_data position) }
+    ensures { IfOk result (λ object. object.text.items ≡ compact_text (bad_binding_data position)) }
 {
     object(
         alloc,
@@ -221,13 +221,13 @@ fn latest<'a>(
     names: usize,
     nodes: usize,
 ) -> Result<Printable, AllocError>
-    ensures { IfOk result (λ object. view object.value ≡ latest_data epoch link.now.0 names nodes) }
+    ensures { IfOk result (λ object. object.text.items ≡ compact_text (latest_data epoch link.now.0 names nodes)) }
 {
     object(
         alloc,
         &[
             Field("epoch", Shown::Number(epoch)),
-            Field("link", Shown::Digits(&link.0)),
+            Field("link", Shown::Digest(&link.0)),
             Field("names", Shown::Number(names as u64)),
             Field("nodes", Shown::Number(nodes as u64)),
             Field("ok", Shown::Text("latest")),

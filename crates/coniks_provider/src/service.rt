@@ -13,7 +13,7 @@ use crate::reply::Reply;
 use crate::signature::GivenSignature;
 use coniks_chain::{Body, Signature, link};
 use coniks_directory::{
-    BindingsFault, Directory, InstallFault, LookupAtFault, Prepared, SuppliedBatch,
+    BindingsFault, Directory, InstallFault, LookupAtFault, OwnedBatch, Prepared,
     SuppliedBatchFault, SuppliedIndices,
 };
 use coniks_json::refusal::{Refusal, batch_refusal};
@@ -91,21 +91,18 @@ impl Service {
         rt: &T,
         parallelism: Parallelism,
         epoch: u64,
-        batch: &SuppliedBatch<'_>,
+        batch: OwnedBatch,
         publisher: &Publisher,
     ) -> Result<Reply, AllocError>
-        requires paired { length batch.now.ops.now ≡ length batch.now.indices.now }
+        requires paired { length batch.ops.items ≡ length batch.indices.items }
         requires served { IsServing publisher.now self.old.directory self.old.pending }
         ensures served { IsServing publisher.now self.new.directory self.new.pending }
         ensures reply { IfOk result (λ reply. provider_outcome_of reply ≡
-            (prepare_on (provided_of self.old) (batch_line_of epoch batch.now) (provider_refusal (provided_of self.old) (batch_line_of epoch batch.now))).outcome) }
+            (prepare_on (provided_of self.old) (batch_line_of epoch batch) (provider_refusal (provided_of self.old) (batch_line_of epoch batch))).outcome) }
         ensures state { OnOk result (serving (provided_of self.new) ≡
-            (prepare_on (provided_of self.old) (batch_line_of epoch batch.now) (provider_refusal (provided_of self.old) (batch_line_of epoch batch.now))).state) }
+            (prepare_on (provided_of self.old) (batch_line_of epoch batch) (provider_refusal (provided_of self.old) (batch_line_of epoch batch))).state) }
     {
-        let update = match self
-            .directory
-            .prepare_supplied(rt, batch, parallelism, &Open)
-        {
+        let update = match self.directory.prepare_owned(rt, batch, parallelism, &Open) {
             Ok(update) => update,
             Err(fault) => return supplied_refusal(fault),
         };

@@ -14,7 +14,7 @@ use crate::reply::Reply;
 use crate::restoring::Restore;
 use crate::service::{BOARD_HEADS, Service};
 use coniks_chain::Entry;
-use coniks_directory::SuppliedBatch;
+use coniks_directory::OwnedBatch;
 use coniks_json::fault::RunFault;
 use coniks_json::refusal::Refusal;
 use coniks_shared::{Board, Publisher};
@@ -94,11 +94,11 @@ impl Store {
         rt: &T,
         parallelism: Parallelism,
         epoch: u64,
-        batch: &SuppliedBatch<'_>,
+        batch: OwnedBatch,
     ) -> Result<Reply, AllocError>
-        requires { length batch.now.ops.now ≡ length batch.now.indices.now }
-        ensures reply { IfOk result (λ reply. provider_outcome_of reply ≡ (prepare_with self.old (batch_line_of epoch batch.now)).outcome) }
-        ensures state { OnOk result (self.new ≡ (prepare_with self.old (batch_line_of epoch batch.now)).state) }
+        requires { length batch.ops.items ≡ length batch.indices.items }
+        ensures reply { IfOk result (λ reply. provider_outcome_of reply ≡ (prepare_with self.old (batch_line_of epoch batch)).outcome) }
+        ensures state { OnOk result (self.new ≡ (prepare_with self.old (batch_line_of epoch batch)).state) }
     {
         let Some(mut service) = take_open(&mut self.held) else {
             return Ok(Reply::Refused(Refusal::NotOpen));

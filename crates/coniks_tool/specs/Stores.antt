@@ -21,7 +21,7 @@ opened_by key s = record { key = key; nonce = s.nonce; policy = s.policy; histor
 
 -- a batch that was read, without the form that the code gives to operations
 abbrev pub batch_of : BatchRead → Batch
-batch_of b = record { t = b.epoch; new_nonce = b.new_nonce; ops = operations b.ops.now }
+batch_of b = record { t = b.epoch; new_nonce = b.new_nonce; ops = operations b.ops.items }
 
 -- the epoch that a batch makes on a directory in this state
 abbrev pub shown_on : Directory → Batch → Shown

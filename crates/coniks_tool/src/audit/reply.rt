@@ -1,7 +1,7 @@
 //! The answers of `audit` to a line, and their text.
 
 ghost use Rattle.std.specs.Prelude.{◌≡◌, IfOk};
-ghost use Rattle.serde_json.specs.View.{view};
+ghost use Rattle.serde_json.specs.Written.{compact_text};
 ghost use Rattle.coniks_tool.specs.AuditReplies.{audit_data, audit_fault_name, audit_outcome, audited_data};
 
 use coniks_chain::AuditFault;
@@ -43,7 +43,7 @@ impl AuditReply {
     ///
     /// `AllocError` if an allocation fails.
     pub fn object(&self, alloc: Global) -> Result<Printable, AllocError>
-        ensures { IfOk result (λ object. view object.value ≡ audit_data (audit_outcome self.now)) }
+        ensures { IfOk result (λ object. object.text.items ≡ compact_text (audit_data (audit_outcome self.now))) }
     {
         match self {
             AuditReply::Audited { epoch, link } => audited(alloc, *epoch, link),
@@ -72,13 +72,13 @@ pub fn audit_fault_text(fault: AuditFault) -> &'static str
 
 /// Returns the object of an accepted entry.
 fn audited(alloc: Global, epoch: u64, link: &Digest) -> Result<Printable, AllocError>
-    ensures { IfOk result (λ object. view object.value ≡ audited_data epoch link.now.0) }
+    ensures { IfOk result (λ object. object.text.items ≡ compact_text (audited_data epoch link.now.0)) }
 {
     object(
         alloc,
         &[
             Field("epoch", Shown::Number(epoch)),
-            Field("link", Shown::Digits(&link.0)),
+            Field("link", Shown::Digest(&link.0)),
             Field("ok", Shown::Text("audit")),
         ],
     )

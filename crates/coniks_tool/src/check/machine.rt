@@ -45,7 +45,7 @@ fn reply(alloc: Global, reply: &CheckReply<'_>, out: &mut Vec<u8>) -> Result<boo
     ensures text { OnOk result (out.new.items ≡ out.old.items ++ compact_text (check_data (check_outcome reply.now))) }
     ensures accepted { IfOk result (λ accepted. accepted ≡ is_answered (check_outcome reply.now)) }
 {
-    reply.object(alloc)?.print(alloc, out)?;
+    reply.object(alloc)?.print(out)?;
     Ok(reply.is_accepted())
 }
 

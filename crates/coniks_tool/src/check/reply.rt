@@ -1,7 +1,7 @@
 //! The answers of `check` to a line, and their text.
 
 ghost use Rattle.std.specs.Prelude.{◌≡◌, IfOk};
-ghost use Rattle.serde_json.specs.View.{view};
+ghost use Rattle.serde_json.specs.Written.{compact_text};
 ghost use Rattle.coniks_proof.specs.Proofs.{said};
 ghost use Rattle.coniks_tool.specs.CheckReplies.{answer_data, key_data, check_data, check_fault_name, check_outcome};
 
@@ -43,7 +43,7 @@ impl CheckReply<'_> {
     ///
     /// `AllocError` if an allocation fails.
     pub fn object(&self, alloc: Global) -> Result<Printable, AllocError>
-        ensures { IfOk result (λ object. view object.value ≡ check_data (check_outcome self.now)) }
+        ensures { IfOk result (λ object. object.text.items ≡ compact_text (check_data (check_outcome self.now))) }
     {
         match self {
             CheckReply::Answered(answer) => answer_value(alloc, answer),
@@ -56,7 +56,7 @@ impl CheckReply<'_> {
 
 /// Returns the object of an accepted proof.
 fn answer_value(alloc: Global, answer: &Answer<'_>) -> Result<Printable, AllocError>
-    ensures { IfOk result (λ object. view object.value ≡ answer_data (said answer.now)) }
+    ensures { IfOk result (λ object. object.text.items ≡ compact_text (answer_data (said answer.now))) }
 {
     match answer {
         Answer::Key(key) => key_value(alloc, *key),
@@ -72,7 +72,7 @@ fn answer_value(alloc: Global, answer: &Answer<'_>) -> Result<Printable, AllocEr
 
 /// Returns the object of a presence proof.
 fn key_value(alloc: Global, key: &[u8]) -> Result<Printable, AllocError>
-    ensures { IfOk result (λ object. view object.value ≡ key_data key.now) }
+    ensures { IfOk result (λ object. object.text.items ≡ compact_text (key_data key.now)) }
 {
     object(
         alloc,

@@ -150,7 +150,7 @@ impl LineMachine for Monitoring {
 
     fn step(&mut self, line: &[u8], out: &mut Vec<u8>) -> Result<bool, AllocError> {
         let reply = self.reply(line)?;
-        reply.object(self.alloc)?.print(self.alloc, out)?;
+        reply.object(self.alloc)?.print(out)?;
         Ok(reply.is_as_expected())
     }
 }

@@ -1,7 +1,7 @@
 //! The answers of `monitor` to a line, and their text.
 
 ghost use Rattle.std.specs.Prelude.{◌≡◌, IfOk};
-ghost use Rattle.serde_json.specs.View.{view};
+ghost use Rattle.serde_json.specs.Written.{compact_text};
 ghost use Rattle.coniks_tool.specs.MonitorReplies.{expecting_data, monitor_data, monitor_fault_name, monitor_outcome, seen_name, watched_data};
 
 use crate::audit::reply::audit_fault_text;
@@ -47,7 +47,7 @@ impl MonitorReply {
     ///
     /// `AllocError` if an allocation fails.
     pub fn object(&self, alloc: Global) -> Result<Printable, AllocError>
-        ensures { IfOk result (λ object. view object.value ≡ monitor_data (monitor_outcome self.now)) }
+        ensures { IfOk result (λ object. object.text.items ≡ compact_text (monitor_data (monitor_outcome self.now))) }
     {
         match self {
             MonitorReply::Watched { epoch, seen } => watched(alloc, *epoch, seen_text(*seen)),
@@ -61,7 +61,7 @@ impl MonitorReply {
 
 /// Returns the object of a watched epoch.
 fn watched(alloc: Global, epoch: u64, seen: &str) -> Result<Printable, AllocError>
-    ensures { IfOk result (λ object. view object.value ≡ watched_data epoch seen.now) }
+    ensures { IfOk result (λ object. object.text.items ≡ compact_text (watched_data epoch seen.now)) }
 {
     object(
         alloc,
@@ -75,7 +75,7 @@ fn watched(alloc: Global, epoch: u64, seen: &str) -> Result<Printable, AllocErro
 
 /// Returns the object of an expectation that was set.
 fn expecting(alloc: Global) -> Result<Printable, AllocError>
-    ensures { IfOk result (λ object. view object.value ≡ expecting_data) }
+    ensures { IfOk result (λ object. object.text.items ≡ compact_text expecting_data) }
 {
     object(alloc, &[Field("ok", Shown::Text("expect"))])
 }

@@ -3,9 +3,9 @@
 use coniks_directory::Op;
 
 /// A batch of a line: the epoch that it is to be, the new nonce, if it has one, and its operations.
-#[derive(Clone, Copy)]
-pub struct Batch<'a> {
+#[derive(Drop)]
+pub struct Batch {
     pub epoch: u64,
     pub new_nonce: Option<[u8; 32]>,
-    pub ops: &'a [Op],
+    pub ops: Vec<Op>,
 }

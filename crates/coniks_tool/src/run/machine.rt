@@ -72,9 +72,9 @@ impl<'r, T: Threads + Sync> Script<'r, T> {
                 let batch = Batch {
                     epoch,
                     new_nonce,
-                    ops: &ops,
+                    ops,
                 };
-                self.store.install(self.rt, self.parallelism, &batch)
+                self.store.install(self.rt, self.parallelism, batch)
             }
             Err(place) => Ok(Reply::Refused(Refusal::BadOperation(place))),
         }
@@ -132,7 +132,7 @@ impl<'r, T: Threads + Sync> LineMachine for Script<'r, T> {
             Some(object) => self.command(&object)?,
             None => Reply::Refused(Refusal::NotJson),
         };
-        reply.object(self.alloc)?.print(self.alloc, out)?;
+        reply.object(self.alloc)?.print(out)?;
         Ok(reply.is_accepted())
     }
 }

@@ -1,7 +1,7 @@
 //! The answers of `run` to a line, and their text.
 
 ghost use Rattle.std.specs.Prelude.{◌≡◌, IfOk};
-ghost use Rattle.serde_json.specs.View.{view};
+ghost use Rattle.serde_json.specs.Written.{compact_text};
 ghost use Rattle.coniks_tool.specs.ScriptReplies.{outcome_of, reply_data, installed_data};
 
 use coniks_chain::Entry;
@@ -45,7 +45,7 @@ impl Reply {
     ///
     /// `AllocError` if an allocation fails.
     pub fn object(&self, alloc: Global) -> Result<Printable, AllocError>
-        ensures { IfOk result (λ object. view object.value ≡ reply_data (outcome_of self.now)) }
+        ensures { IfOk result (λ object. object.text.items ≡ compact_text (reply_data (outcome_of self.now))) }
     {
         match self {
             Reply::Opened => opened(alloc),
@@ -58,16 +58,16 @@ impl Reply {
 
 /// Returns the object of an installed batch.
 fn installed<'a>(alloc: Global, entry: &'a Entry, link: &'a Digest) -> Result<Printable, AllocError>
-    ensures { IfOk result (λ object. view object.value ≡ installed_data entry.now link.now.0) }
+    ensures { IfOk result (λ object. object.text.items ≡ compact_text (installed_data entry.now link.now.0)) }
 {
     object(
         alloc,
         &[
             Field("entry", Shown::Entry(entry)),
             Field("epoch", Shown::Number(entry.body.t)),
-            Field("link", Shown::Digits(&link.0)),
+            Field("link", Shown::Digest(&link.0)),
             Field("ok", Shown::Text("batch")),
-            Field("root", Shown::Digits(&entry.body.root.0)),
+            Field("root", Shown::Digest(&entry.body.root.0)),
         ],
     )
 }

@@ -56,7 +56,7 @@ impl Service {
         &mut self,
         rt: &T,
         parallelism: Parallelism,
-        batch: &Batch<'_>,
+        batch: Batch,
         publisher: &mut Publisher,
         board: &Board,
     ) -> Result<Entry, CommitFault>
@@ -65,12 +65,12 @@ impl Service {
         requires served { IsServed publisher.old self.old }
         ensures table { publisher.new.table ≡ publisher.old.table }
         ensures served { IsServed publisher.new self.new }
-        ensures ok { IfOk result (λ entry. Installs (opened_of self.old) (batch_of batch.now) entry (opened_of self.new)) }
+        ensures ok { IfOk result (λ entry. Installs (opened_of self.old) (batch_of batch) entry (opened_of self.new)) }
         ensures refused { IfErr result
-            (IsRefusedBy (refusal (demo_index (opened_of self.old).key) (opened_of self.old).history batch.now.epoch (operations batch.now.ops.now))) }
+            (IsRefusedBy (refusal (demo_index (opened_of self.old).key) (opened_of self.old).history batch.epoch (operations batch.ops.items))) }
         ensures unchanged { OnErr result (opened_of self.new ≡ opened_of self.old) }
     {
-        let committed = self.directory.commit_with(
+        let committed = self.directory.commit_owned(
             rt,
             nonce_of(batch.new_nonce),
             batch.ops,
@@ -193,10 +193,10 @@ impl Store {
         &mut self,
         rt: &T,
         parallelism: Parallelism,
-        batch: &Batch<'_>,
+        batch: Batch,
     ) -> Result<Reply, AllocError>
-        ensures reply { IfOk result (λ reply. outcome_of reply ≡ (batch_with self.old (batch_of batch.now)).outcome) }
-        ensures state { OnOk result (self.new ≡ (batch_with self.old (batch_of batch.now)).state) }
+        ensures reply { IfOk result (λ reply. outcome_of reply ≡ (batch_with self.old (batch_of batch)).outcome) }
+        ensures state { OnOk result (self.new ≡ (batch_with self.old (batch_of batch)).state) }
     {
         let Some(mut service) = self.opened.take() else {
             return Ok(Reply::Refused(Refusal::NotOpen));

@@ -1,8 +1,11 @@
-use Rattle.std.proofs.Common.{ap, map, ◌∙◌}
-use Rattle.serde_json.specs.Written.{has_float}
+use Rattle.std.proofs.Common.{map, ◌∙◌}
 use Rattle.coniks_directory.specs.Bindings.{indexed_binding}
-use Rattle.coniks_provider.proofs.PageLemmas.{page_plain}
+use Rattle.coniks_json.proofs.Lemmas.{text_is}
+use Rattle.coniks_provider.specs.Answers.{page_data}
 use Rattle.coniks_provider.proofs.page.page_object.Goals as goal
 
-pub invariant_of-result : goal.invariant_of-result
-invariant_of-result c = record { plain = ap has_float c.in_ok-value.ensures ∙ page_plain c.args.epoch (map indexed_binding c.args.page.now) c.args.more }
+pub returns : goal.returns
+returns c =
+    c.into_inner.ensures.items
+    ∙ text_is (page_data c.args.epoch (map indexed_binding c.args.page.now) c.args.more) (c.new-writer.ensures.before ∙ c.in_ok-with_capacity.ensures.items) c.new-writer.ensures.tokens
+    c.in_ok-write_page.ensures

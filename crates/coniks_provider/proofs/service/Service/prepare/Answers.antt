@@ -23,43 +23,43 @@ use Rattle.coniks_provider.proofs.service.Service.prepare.Goals as goal
 allowed : (g : given.Over) (c : Joined-self g) → provider_number_refusal (provided_of c.args.self.now) c.args.epoch ≡ None
 allowed g c = sym c.number_refusal.ensures ∙ ap (option_map provider_outcome_of) c.in_default.is
 
-none_in : (g : given.Over) (c : Joined-self g) → provider_refusal (provided_of c.args.self.now) (batch_line_of c.args.epoch c.args.batch.now) ≡ None
+none_in : (g : given.Over) (c : Joined-self g) → provider_refusal (provided_of c.args.self.now) (batch_line_of c.args.epoch c.args.batch) ≡ None
 none_in g c =
     let e = c.in-Ok.ensures in
-    number_is (provided_of c.args.self.now) (batch_line_of c.args.epoch c.args.batch.now) e.within e.faultless ∙ allowed g c
+    number_is (provided_of c.args.self.now) (batch_line_of c.args.epoch c.args.batch) e.within e.faultless ∙ allowed g c
 
-operations_in : (g : given.Over) (c : Joined-self g) → operations_of (batch_line_of c.args.epoch c.args.batch.now).ops ≡ operations c.args.batch.now.ops.now
-operations_in g c = indexed_operations c.args.batch.now.ops.now c.args.batch.now.indices.now c.requires.paired
+operations_in : (g : given.Over) (c : Joined-self g) → operations_of (batch_line_of c.args.epoch c.args.batch).ops ≡ operations c.args.batch.ops.items
+operations_in g c = indexed_operations c.args.batch.ops.items c.args.batch.indices.items c.requires.paired
 
 -- the epoch is that of the batch
 shown_in : (g : given.Over) (c : Joined-self g)
-    → shown_after c.args.self.now.directory.state c.in-Ok.update c.args.epoch ≡ epoch_next (provided_of c.args.self.now) (batch_line_of c.args.epoch c.args.batch.now)
+    → shown_after c.args.self.now.directory.state c.in-Ok.update c.args.epoch ≡ epoch_next (provided_of c.args.self.now) (batch_line_of c.args.epoch c.args.batch)
 shown_in g c =
     let s = c.args.self.now in
     let e = c.in-Ok.ensures in
     let registry = latest_registry (history_of s.directory.state) in
-    shown_is s.directory s.pending (batch_line_of c.args.epoch c.args.batch.now) c.in-Ok.update e.update.rotates (e.update.registry ∙ ap (after registry) (sym (operations_in g c)))
+    shown_is s.directory s.pending (batch_line_of c.args.epoch c.args.batch) c.in-Ok.update e.update.rotates (e.update.registry ∙ ap (after registry) (sym (operations_in g c)))
 
 -- and the body is that of this epoch
 body_in : (g : given.Over) (c : Joined-self g) → (let s = c.args.self.now.directory.state in
-    c.next_body-body.result ≡ body_of sha256 (index_for (provided_of c.args.self.now) (batch_line_of c.args.epoch c.args.batch.now))
+    c.next_body-body.result ≡ body_of sha256 (index_for (provided_of c.args.self.now) (batch_line_of c.args.epoch c.args.batch))
     s.policy (before_at sha256 s.before s.chain (length s.chain)) (shown_after s c.in-Ok.update c.args.epoch))
-body_in g c = c.next_body-body.ensures (index_for (provided_of c.args.self.now) (batch_line_of c.args.epoch c.args.batch.now)) (c.in-Ok.ensures.installable.agree c.in-Ok.ensures.update.update.base) c.in-Ok.ensures.update.update
+body_in g c = c.next_body-body.ensures (index_for (provided_of c.args.self.now) (batch_line_of c.args.epoch c.args.batch)) (c.in-Ok.ensures.installable.agree c.in-Ok.ensures.update.update.base) c.in-Ok.ensures.update.update
 
-body_is : (g : given.Over) (c : Joined-self g) → c.next_body-body.result ≡ (pending_by (provided_of c.args.self.now) (batch_line_of c.args.epoch c.args.batch.now)).body
+body_is : (g : given.Over) (c : Joined-self g) → c.next_body-body.result ≡ (pending_by (provided_of c.args.self.now) (batch_line_of c.args.epoch c.args.batch)).body
 body_is g c =
     let s = c.args.self.now.directory.state in
-    body_in g c ∙ ap (λ (x : Shown). body_of sha256 (index_for (provided_of c.args.self.now) (batch_line_of c.args.epoch c.args.batch.now)) s.policy (before_at sha256 s.before s.chain (length s.chain)) x)
+    body_in g c ∙ ap (λ (x : Shown). body_of sha256 (index_for (provided_of c.args.self.now) (batch_line_of c.args.epoch c.args.batch)) s.policy (before_at sha256 s.before s.chain (length s.chain)) x)
     (shown_in g c)
 
-indices_in : (g : given.Over) (c : Joined-self g) → indices_of c.in-Ok.update ≡ (pending_by (provided_of c.args.self.now) (batch_line_of c.args.epoch c.args.batch.now)).indices
-indices_in g c = c.in-Ok.ensures.indices ∙ ap (indices_by (index_for (provided_of c.args.self.now) (batch_line_of c.args.epoch c.args.batch.now))) (sym (operations_in g c))
+indices_in : (g : given.Over) (c : Joined-self g) → indices_of c.in-Ok.update ≡ (pending_by (provided_of c.args.self.now) (batch_line_of c.args.epoch c.args.batch)).indices
+indices_in g c = c.in-Ok.ensures.indices ∙ ap (indices_by (index_for (provided_of c.args.self.now) (batch_line_of c.args.epoch c.args.batch))) (sym (operations_in g c))
 
-nodes_in : (g : given.Over) (c : Joined-self g) → nodes_added c.in-Ok.update ≡ (pending_by (provided_of c.args.self.now) (batch_line_of c.args.epoch c.args.batch.now)).nodes
+nodes_in : (g : given.Over) (c : Joined-self g) → nodes_added c.in-Ok.update ≡ (pending_by (provided_of c.args.self.now) (batch_line_of c.args.epoch c.args.batch)).nodes
 nodes_in g c =
     let o = provided_of c.args.self.now in
     c.in-Ok.ensures.update.nodes ∙ ap
-    (λ (ops : List Operation). epoch_nodes (index_for o (batch_line_of c.args.epoch c.args.batch.now)) o.history (nonce_bytes c.args.batch.now.nonce) ops) (sym (operations_in g c))
+    (λ (ops : List Operation). epoch_nodes (index_for o (batch_line_of c.args.epoch c.args.batch)) o.history (nonce_bytes c.args.batch.nonce) ops) (sym (operations_in g c))
 
 pub returns-clause-served : goal.returns-clause-served
 returns-clause-served g c =
@@ -72,12 +72,12 @@ returns-clause-served g c =
       heads = c.requires.served.heads;
       room = c.requires.served.room;
       pending = record {
-        index = index_for o (batch_line_of c.args.epoch c.args.batch.now);
+        index = index_for o (batch_line_of c.args.epoch c.args.batch);
         supplied = e.installable;
         fresh = e.update.update.base;
         later = rw number free.0;
         room = free.1;
-        body = body_in g c ∙ ap (λ (n : ℕ). body_of sha256 (index_for o (batch_line_of c.args.epoch c.args.batch.now)) d.state.policy
+        body = body_in g c ∙ ap (λ (n : ℕ). body_of sha256 (index_for o (batch_line_of c.args.epoch c.args.batch)) d.state.policy
             (before_at sha256 d.state.before d.state.chain (length d.state.chain)) (shown_after d.state c.in-Ok.update n)) (sym number);
       };
     }
@@ -85,10 +85,10 @@ returns-clause-served g c =
 pub returns-clause-reply : goal.returns-clause-reply
 returns-clause-reply g c =
     let s = c.args.self.now in
-    prepared_reply s.directory s.pending (batch_line_of c.args.epoch c.args.batch.now) c.in-Ok.update c.next_body-body.result (none_in g c)
+    prepared_reply s.directory s.pending (batch_line_of c.args.epoch c.args.batch) c.in-Ok.update c.next_body-body.result (none_in g c)
     (body_is g c) (shown_in g c) (indices_in g c) (nodes_in g c) c.new_nodes-nodes.result c.new_nodes-nodes.ensures
 
 pub returns-clause-state : goal.returns-clause-state
 returns-clause-state g c =
     let s = c.args.self.now in
-    prepared_state s.directory s.pending (batch_line_of c.args.epoch c.args.batch.now) c.in-Ok.update c.next_body-body.result (none_in g c) (body_is g c) (shown_in g c) (indices_in g c) (nodes_in g c)
+    prepared_state s.directory s.pending (batch_line_of c.args.epoch c.args.batch) c.in-Ok.update c.next_body-body.result (none_in g c) (body_is g c) (shown_in g c) (indices_in g c) (nodes_in g c)

@@ -6,19 +6,19 @@ use Rattle.coniks_tool.proofs.run.store.Service.commit.Goals as goal
 
 pub returns-clause-served : goal.returns-clause-served
 returns-clause-served g c =
-    let e = c.commit_with-committed.ensures in
+    let e = c.commit_owned-committed.ensures in
     let k = e.kept in
     let s = c.requires.served in
-    let result = c.commit_with-committed.result in
-    let counts = made_and_room demo_index result c.args.self.now.directory c.commit_with-committed.new.self c.args.publisher.now c.commit_with-committed.new.publisher c.args.batch.now.ops.now
-    c.args.self.now.signer.made c.commit_with-committed.new.signer.made 0 0 c.args.parallelism.depth c.args.parallelism.workers c.args.batch.now.epoch
-    (length c.args.publisher.now.heads) c.args.board.now.capacity c.args.self.now.signer.last c.commit_with-committed.new.signer.last
+    let result = c.commit_owned-committed.result in
+    let counts = made_and_room demo_index result c.args.self.now.directory c.commit_owned-committed.new.self c.args.publisher.now c.commit_owned-committed.new.publisher c.args.batch.ops.items
+    c.args.self.now.signer.made c.commit_owned-committed.new.signer.made 0 0 c.args.parallelism.depth c.args.parallelism.workers c.args.batch.epoch
+    (length c.args.publisher.now.heads) c.args.board.now.capacity c.args.self.now.signer.last c.commit_owned-committed.new.signer.last
     (on_ok result _ _ (λ x signed. signed.made) e.signed) (if_ok result _ _ (λ x added. added.epoch.chain) e.installed)
     e.outcome e.unsigned e.unchanged s.made s.room (as_many c.args.publisher.now.heads c.args.self.now.directory.state.chain s.heads) c.requires.capacity in
     record {
       begun = k.grows.before ∙ s.begun;
       verdicts = λ b x. k.verdicts_kept b x ∙ s.verdicts b x ∙ ap (λ (k : List ℕ). is_seal k b x) (sym e.same.index);
-      good = from_first (is_seal c.commit_with-committed.new.signer.key) c.commit_with-committed.new.self.state (k.grows.before ∙ s.begun)
+      good = from_first (is_seal c.commit_owned-committed.new.signer.key) c.commit_owned-committed.new.self.state (k.grows.before ∙ s.begun)
           (k.good (to_first (is_seal c.args.self.now.signer.key) c.args.self.now.directory.state s.begun s.good));
       made = counts.0;
       heads = k.heads;
@@ -27,14 +27,14 @@ returns-clause-served g c =
 
 pub returns-clause-ok : goal.returns-clause-ok
 returns-clause-ok g c =
-    let e = c.commit_with-committed.ensures in
+    let e = c.commit_owned-committed.ensures in
     let k = e.kept in
     let s = c.requires.served in
-    let result = c.commit_with-committed.result in
+    let result = c.commit_owned-committed.result in
     let history = on_ok result _ _ (λ x added. added.epoch.history) e.installed in
-    installed_by c.args.self.now.directory c.commit_with-committed.new.self c.args.batch.now.new_nonce c.args.batch.now.ops.now
-    c.args.parallelism.depth c.args.parallelism.workers c.args.batch.now.epoch
-    (length c.args.publisher.now.heads) c.args.board.now.capacity (is_seal c.commit_with-committed.new.signer.key) result
+    installed_by c.args.self.now.directory c.commit_owned-committed.new.self c.args.batch.new_nonce c.args.batch.ops.items
+    c.args.parallelism.depth c.args.parallelism.workers c.args.batch.epoch
+    (length c.args.publisher.now.heads) c.args.board.now.capacity (is_seal c.commit_owned-committed.new.signer.key) result
     (λ b x. k.verdicts_kept b x ∙ s.verdicts b x) e.same.index k.grows (rw c.nonce_of.ensures at history) (if_ok result _ _ (λ x added. added.epoch.chain) e.installed)
     (k.grows.before ∙ s.begun) c.chain-chain.ensures.of_history
     (k.good (to_first (is_seal c.args.self.now.signer.key) c.args.self.now.directory.state s.begun s.good)) e.outcome
@@ -42,11 +42,11 @@ returns-clause-ok g c =
 
 pub returns-clause-refused : goal.returns-clause-refused
 returns-clause-refused g c =
-    let e = c.commit_with-committed.ensures in
+    let e = c.commit_owned-committed.ensures in
     let s = c.requires.served in
-    refused_by demo_index (demo_index c.commit_with-committed.new.self.index) c.args.self.now.directory
-    c.commit_with-committed.new.self c.args.publisher.now c.commit_with-committed.new.publisher c.args.batch.now.ops.now
-    c.args.parallelism.depth c.args.parallelism.workers c.args.batch.now.epoch (length c.args.publisher.now.heads) c.args.board.now.capacity
-    c.args.self.now.signer.made c.commit_with-committed.new.signer.made c.args.self.now.signer.last c.commit_with-committed.new.signer.last
-    c.commit_with-committed.result c.args.parallelism.within.0 c.args.parallelism.within.1
+    refused_by demo_index (demo_index c.commit_owned-committed.new.self.index) c.args.self.now.directory
+    c.commit_owned-committed.new.self c.args.publisher.now c.commit_owned-committed.new.publisher c.args.batch.ops.items
+    c.args.parallelism.depth c.args.parallelism.workers c.args.batch.epoch (length c.args.publisher.now.heads) c.args.board.now.capacity
+    c.args.self.now.signer.made c.commit_owned-committed.new.signer.made c.args.self.now.signer.last c.commit_owned-committed.new.signer.last
+    c.commit_owned-committed.result c.args.parallelism.within.0 c.args.parallelism.within.1
     (as_many c.args.publisher.now.heads c.args.self.now.directory.state.chain s.heads) c.requires.capacity e.unsigned e.outcome e.unchanged c.chain-chain.ensures.of_history

@@ -13,10 +13,10 @@ use Rattle.coniks_tool.proofs.run.store.Store.install.Goals as goal
 
 -- the turn of a refused batch
 refused_in : (g : given.Over) (c : In_ok-commit_refusal-in-Err g) → (let o = opened_of c.in-Some.service in
-    batch_with c.args.self.now (batch_of c.args.batch.now) ≡ refused (Some o) (because (refusal_of c.in_ok-commit_refusal-in-Err.field-0)))
+    batch_with c.args.self.now (batch_of c.args.batch) ≡ refused (Some o) (because (refusal_of c.in_ok-commit_refusal-in-Err.field-0)))
 refused_in g c =
     let o = opened_of c.in-Some.service in
-    let b = batch_of c.args.batch.now in
+    let b = batch_of c.args.batch in
     let same : c.args.self.now ≡ Some o = shown_open c.self.inside.opened c.in-Some.service c.args.self.now c.in-Some.ensures.value c.self.view_is in
     refused_turn o b c.args.self.now (refusal_of c.in_ok-commit_refusal-in-Err.field-0) same
     (c.in_ok-commit_refusal-in-Err.ensures (refusal (demo_index o.key) o.history b.t b.ops) c.in-Err.ensures.refused)
@@ -33,10 +33,10 @@ returns-clause-reply g c =
     let o = opened_of c.in-Some.service in
     let same : c.args.self.now ≡ Some o = shown_open c.self.inside.opened c.in-Some.service c.args.self.now c.in-Some.ensures.value c.self.view_is in
     ap (installed c.in-Ok.entry) c.link-link.ensures ∙ sym (ap (λ (t : ScriptTurn). t.outcome)
-    (installed_turn o (opened_of c.commit-committed.new.self) (batch_of c.args.batch.now) c.in-Ok.entry c.args.self.now same c.in-Ok.ensures.ok))
+    (installed_turn o (opened_of c.commit-committed.new.self) (batch_of c.args.batch) c.in-Ok.entry c.args.self.now same c.in-Ok.ensures.ok))
 
 pub returns-clause-state : goal.returns-clause-state
 returns-clause-state g c =
     let o = opened_of c.in-Some.service in
     let same : c.args.self.now ≡ Some o = shown_open c.self.inside.opened c.in-Some.service c.args.self.now c.in-Some.ensures.value c.self.view_is in
-    sym (ap (λ (t : ScriptTurn). t.state) (installed_turn o (opened_of c.commit-committed.new.self) (batch_of c.args.batch.now) c.in-Ok.entry c.args.self.now same c.in-Ok.ensures.ok))
+    sym (ap (λ (t : ScriptTurn). t.state) (installed_turn o (opened_of c.commit-committed.new.self) (batch_of c.args.batch) c.in-Ok.entry c.args.self.now same c.in-Ok.ensures.ok))
