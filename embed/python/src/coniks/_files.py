@@ -87,6 +87,20 @@ def sync_folder(path: Path) -> None:
         os.close(folder)
 
 
+def rewrite(path: Path, data: bytes, mode: int = 0o644) -> None:
+    """Stores a file durably in the place of another one, by way of `PATH.new`. Only one process at a time may do so."""
+    new = f"{os.fspath(path)}.new"
+    with suppress(FileNotFoundError):
+        # A process that was killed left it. Its rights may be others.
+        os.unlink(new)
+    with open(new, "xb", opener=lambda it, flags: os.open(it, flags, mode)) as file:
+        file.write(data)
+        file.flush()
+        os.fsync(file.fileno())
+    os.replace(new, path)
+    sync_folder(path)
+
+
 class Replacement:
     """A file that is written beside another one, `PATH.new`, and then takes its place. A symbolic link stays: `PATH` is then the file
     that it leads to. What a process left there that was killed is overwritten. Only one process or thread at a time has it: the

@@ -29,12 +29,11 @@ import os
 import re
 import stat
 import time
-from contextlib import suppress
 from dataclasses import dataclass, replace
 from typing import Callable, Optional
 
 from . import BODY_LENGTH, ENTRY_LENGTH
-from ._files import Path, sync_folder
+from ._files import Path, rewrite
 from ._lines import SIGNATURE_LENGTH, sized
 
 __all__ = ["BodyAbandoned", "BodyRefused", "BodySigned", "Guard", "GuardError", "RecordFailed"]
@@ -292,7 +291,7 @@ class Guard:
         try:
             if self._read() != before:
                 return False
-            self._replace(after)
+            rewrite(self._path, after.encode())
             return True
         finally:
             # A process that was forked meanwhile has the file open too, so that closing it wouldn't end the lock.
@@ -307,18 +306,6 @@ class Guard:
                 if time.monotonic() > until:
                     raise RecordFailed(f"{self} is locked by a process that doesn't go on: end it, and try again") from None
                 time.sleep(0.005)
-
-    def _replace(self, text: str) -> None:
-        new = f"{self._path}.new"
-        with suppress(FileNotFoundError):
-            # A process that was killed left it.
-            os.unlink(new)
-        with open(new, "xb", opener=lambda path, flags: os.open(path, flags, 0o644)) as file:
-            file.write(text.encode())
-            file.flush()
-            os.fsync(file.fileno())
-        os.replace(new, self._path)
-        sync_folder(self._path)
 
     def _failed(self, what: str, error: OSError) -> RecordFailed:
         why = "it is a symbolic link, so name the file itself" if error.errno == errno.ELOOP else error.strerror

@@ -1,0 +1,45 @@
+"""The file of `coniks-client`, which one run at a time has: a line with its SHA-256, and one JSON object."""
+
+from __future__ import annotations
+
+import hashlib
+import json
+import os
+from pathlib import Path
+from typing import Any
+
+from ._files import lock, opened_at, rewrite
+from ._http import Unusable
+
+_BEGIN = "coniks-client 1 "
+
+
+class StateFile:
+    """The file at a path, which is replaced as a whole. A symbolic link stays, and what it leads to is replaced. Only its owner may read
+    it, since a state has secret keys."""
+
+    def __init__(self, path: Path):
+        """Takes the lock, `PATH.lock`. Raises `Unusable` while another run has it."""
+        self.path = Path(os.path.realpath(path))
+        self._lock = opened_at(f"{self.path}.lock", os.O_RDWR | os.O_CREAT | os.O_NOFOLLOW)
+        self.close = self._lock.close
+        try:
+            lock(self._lock.fileno())
+        except BlockingIOError:
+            self.close()
+            raise Unusable(f"another run has {path}: wait for it") from None
+
+    def read(self) -> dict[str, Any]:
+        """The members that are stored. Raises `Unusable` if there is no file, or one that was cut or changed."""
+        if not self.path.exists():
+            raise Unusable(f"{self.path} isn't there: coniks-client begin makes it")
+        front, _, text = self.path.read_bytes().partition(b"\n")
+        if front.decode("latin-1") != _BEGIN + hashlib.sha256(text).hexdigest():
+            raise Unusable(f"{self.path} is no state of coniks-client, or was cut or changed: restore it, or begin anew")
+        members: dict[str, Any] = json.loads(text)
+        return members
+
+    def write(self, members: dict[str, Any]) -> None:
+        """Stores members durably in the place of the others."""
+        text = json.dumps(members).encode()
+        rewrite(self.path, f"{_BEGIN}{hashlib.sha256(text).hexdigest()}\n".encode() + text, 0o600)

@@ -1,0 +1,84 @@
+"""Requests to services and auditors, of which neither the bytes nor the seconds of a reply are theirs to choose."""
+
+from __future__ import annotations
+
+import socket
+import threading
+from contextlib import closing
+from dataclasses import dataclass
+from http.client import HTTPConnection, HTTPException, HTTPSConnection
+from typing import Iterator, Mapping, Optional
+from urllib.parse import urlsplit
+
+from . import BODY_LENGTH, ENTRY_LENGTH
+from ._messages import catch_up_entries
+from .client import Client
+
+# The most seconds that a connection and a whole reply may take.
+CONNECTING, SECONDS = 10.0, 30.0
+# The most bytes of a page, which has 1,000 entries.
+PAGE = 1000 * ENTRY_LENGTH
+
+
+class Unusable(Exception):
+    """A service, an auditor or a file can't be used now."""
+
+
+@dataclass(frozen=True)
+class Answer:
+    """A reply, whatever its status is. The names of `headers` are in lower case."""
+
+    status: int
+    headers: Mapping[str, str]
+    body: bytes
+
+
+def answered(url: str, most: int, body: Optional[bytes] = None, headers: Mapping[str, str] = {}) -> Answer:
+    """Returns the reply to a request, whose body has at most so many bytes. A request with a body is a POST. It follows no redirect,
+    and a server that sends a byte now and then doesn't keep it waiting. Raises `Unusable`."""
+    timer = None
+    try:
+        parts = urlsplit(url)
+        kind = {"http": HTTPConnection, "https": HTTPSConnection}[parts.scheme]
+        connection = kind(parts.hostname or "", parts.port, timeout=CONNECTING)
+        with closing(connection):
+            connection.connect()
+            connection.sock.settimeout(SECONDS)
+            timer = threading.Timer(SECONDS, connection.sock.shutdown, [socket.SHUT_RDWR])
+            timer.start()
+            target = parts._replace(scheme="", netloc="", fragment="").geturl()
+            connection.request("GET" if body is None else "POST", target, body, dict(headers))
+            found = connection.getresponse()
+            text: bytes = found.read(most + 1)
+    except (OSError, HTTPException, KeyError, ValueError) as error:
+        raise Unusable(f"{url}: {type(error).__name__} {error}") from error
+    finally:
+        if timer:
+            timer.cancel()
+    if len(text) > most:
+        raise Unusable(f"{url} has more than {most} bytes")
+    return Answer(found.status, {name.lower(): it for name, it in found.getheaders()}, text)
+
+
+def fetched(url: str, most: int = PAGE) -> bytes:
+    """Returns the body that a URL has. Raises `Unusable`."""
+    found = answered(url, most)
+    if found.status != 200:
+        raise Unusable(f"{url} has status {found.status}")
+    return found.body
+
+
+def new_entries(client: Client, source: str, is_whole: bool = False) -> Iterator[bytes]:
+    """The entries that a service or an auditor has and a client lacks. They are asked for from the client's latest one on, so that
+    another one in its place is noticed; or from the first one on, since only whole entries convict. Raises `Unusable` and `Refusal`.
+    """
+    known, latest = {it[:BODY_LENGTH] for it in client.entries}, (client.entries or [bytes(ENTRY_LENGTH)])[-1]
+    start = after = 0 if is_whole else int.from_bytes(latest[9:17], "big")
+    while page := catch_up_entries(fetched(f"{source}/v1/entries?after={after}")):
+        epochs = [after, *(int.from_bytes(it[1:9], "big") for it in page)]
+        if epochs != sorted(set(epochs)):
+            raise Unusable(f"{source}: its entries do not rise")
+        yield from (it for it in page if it[:BODY_LENGTH] not in known)
+        after = epochs[-1]
+    if known and after == start:
+        raise Unusable(f"{source} shows an older chain than before: it is late, or hides epochs")

@@ -1,0 +1,248 @@
+"""Audits a key directory: follows its service, verifies each entry, and cosigns heads.
+
+    coniks-audit --new-key audit.key --name audit.example.org
+    coniks-audit --policy policy --service https://keys.example.com --folder audit --key audit.key --name audit.example.org
+
+The folder has `entries`, all entries that were accepted, `note`, the latest head with this auditor's cosignature, `metrics`, and
+`alarm`, once there is cause for one. Keep the folder with the key, and restore neither from an old backup: the auditor would cosign
+heads that overlap those that it has cosigned. Status 0: all is well; 1: an alarm; 2: a wrong command line; 3: the service or the
+folder can't be used, or the service is late.
+"""
+
+from __future__ import annotations
+
+import argparse
+import json
+import os
+import re
+import signal
+import sys
+import threading
+import time
+from contextlib import suppress
+from functools import partial
+from http.server import BaseHTTPRequestHandler, ThreadingHTTPServer
+from pathlib import Path
+from typing import Optional, Sequence
+
+from nacl.signing import SigningKey
+
+from . import ENTRY_LENGTH, Policy
+from ._files import lock, rewrite
+from ._http import PAGE, Unusable, fetched, new_entries
+from ._replies import catch_up
+from .client import Cause, Client, Comparison, Refusal
+from .notes import Auditor, BadNote, Note, cosign, read_note, text_of
+
+__all__ = ["Alarm", "Audit", "Unusable", "main"]
+
+# What anyone on the way can make a reply to be, who leaves out an entry for example, so that it is no alarm.
+_HARMLESS = (Cause.SIGNATURE, Cause.ENTRY_LENGTH, Cause.CATCH_UP_LENGTH, Cause.PREVIOUS_EPOCH)
+
+
+class Alarm(Exception):
+    """What an auditor must tell. `members` are those of the file: `evidence` has the two entries that convict the directory, or the
+    one that doesn't follow. `note` is that of another auditor which its entries don't have: that one lied, not the directory."""
+
+    def __init__(self, source: str, why: str, evidence: Sequence[bytes] = (), note: str = ""):
+        self.members = {"source": source, "why": why, "evidence": [it.hex() for it in evidence], "note": note}
+        self.file = "alarm.peer" if note else "alarm"
+        super().__init__(f"{source}: {why}")
+
+
+class Audit:
+    """An auditor with its folder, which no other process has open."""
+
+    def __init__(self, folder: Path, policy: Policy, name: str, key: SigningKey):
+        self._folder, self._policy, self._name, self._key = folder, policy, name, key
+        self._client = Client(policy.signing_key, policy.vrf_key, policy)
+        self._file = open(folder / "entries", "a+b")
+        try:
+            lock(self._file.fileno())
+        except BlockingIOError:
+            raise Unusable(f"another process audits in {folder}") from None
+        self._resume()
+
+    def _resume(self) -> None:
+        """Verifies what is stored again. An entry that a crash has cut was never signed for."""
+        self._file.seek(0)
+        stored = self._file.read()
+        whole = stored[: len(stored) - len(stored) % ENTRY_LENGTH]
+        self._file.truncate(len(whole))
+        try:
+            self._client.feed(whole)
+            note = self.read("note")
+            if note and self._client.compare(read_note(note).head(self._policy)) is not Comparison.EQUAL:
+                raise BadNote("the entries lack the head that was cosigned")
+        except (Refusal, BadNote) as error:
+            raise Unusable(f"{self._folder} was changed, or is an old backup: {error}") from error
+
+    def read(self, file: str) -> bytes:
+        """What a file of the folder has, nothing if it isn't there."""
+        with suppress(FileNotFoundError):
+            return (self._folder / file).read_bytes()
+        return b""
+
+    def follow(self, source: str, is_whole: bool = False) -> None:
+        """Takes the entries that a service or another auditor has, and stores those that are new. Raises `Alarm` for one that is signed
+        and isn't of this chain."""
+        count, entry = len(self._client.entries), b""
+        try:
+            for entry in new_entries(self._client, source, is_whole):
+                self._client.feed([entry])
+        except Refusal as error:
+            if error.cause in _HARMLESS:
+                raise Unusable(f"{source}: {error}") from error
+            found = error.evidence
+            raise Alarm(source, error.cause.name, (found.mine, found.other) if found else (entry,)) from error
+        finally:
+            self._file.write(b"".join(self._client.entries[count:]))
+            self._file.flush()
+            os.fsync(self._file.fileno())
+
+    def compare(self, peer: str, auditor: Auditor) -> None:
+        """Compares the head of another auditor with this chain. What that one has seen beyond is taken. Raises `Alarm`."""
+        try:
+            note = read_note(fetched(f"{peer}/v1/note"))
+            head = note.head(self._policy)
+        except BadNote as error:
+            raise Unusable(f"{peer}: {error}") from error
+        if not note.times([auditor]):
+            raise Unusable(f"{peer}: the note isn't cosigned by {auditor.name}")
+        for is_whole in (False, True):
+            if self._client.compare(head) is not Comparison.EQUAL:
+                self.follow(peer, is_whole)
+        if self._client.compare(head) is not Comparison.EQUAL:
+            raise Alarm(peer, "HEAD_DIFFERS", note=bytes(note).decode())
+
+    def sign(self) -> None:
+        """Cosigns the latest head, all entries up to which are stored."""
+        head = self._client.head()
+        if head and not self.read("alarm"):
+            text = text_of(self._policy, head)
+            rewrite(self._folder / "note", bytes(Note(text, (cosign(self._name, self._key, text, int(time.time())),))))
+
+    def behind(self) -> int:
+        """How many epochs of the policy's clock the latest entry is behind, 0 without a clock."""
+        head, now = self._client.head(), self._policy.epoch_at(time.time()) if self._policy.epoch_period else 0
+        return max(0, now - (head.epoch if head else 0))
+
+    def round(self, service: str, peers: Sequence[tuple[str, Auditor]]) -> bool:
+        """Follows the service, compares heads with the peers, and cosigns. Returns whether all could be asked, and no epoch is late.
+        An alarm is stored, unless there is one: the first one tells most."""
+        is_well = True
+        for step in [partial(self.follow, service), *(partial(self.compare, *it) for it in peers)]:
+            try:
+                step()
+            except Unusable as error:
+                is_well = False
+                tell("unusable", str(error))
+            except Alarm as alarm:
+                tell("alarm", str(alarm))
+                if not self.read(alarm.file):
+                    rewrite(self._folder / alarm.file, json.dumps({"time": int(time.time()), **alarm.members}).encode() + b"\n")
+        self.sign()
+        rewrite(self._folder / "metrics", self.metrics())
+        return is_well and self.behind() < 2
+
+    def metrics(self) -> bytes:
+        """The metrics, in Prometheus's text format."""
+        head = self._client.head()
+        rows = {
+            "epoch": head.epoch if head else 0,
+            "epochs_behind": self.behind(),
+            "alarm": int(bool(self.read("alarm"))),
+            "peer_alarm": int(bool(self.read("alarm.peer"))),
+        }
+        return "".join(f"coniks_audit_{name} {value}\n" for name, value in rows.items()).encode()
+
+    def page(self, target: str) -> Optional[bytes]:
+        """What is served under a target, None if there is nothing."""
+        if found := re.fullmatch(r"/v1/entries\?after=(0|[1-9][0-9]{0,18})", target):
+            return catch_up(self._client.entries, int(found[1]))[:PAGE]
+        file = {"/v1/note": "note", "/alarm": "alarm", "/metrics": "metrics"}.get(target)
+        return self.read(file) or None if file else None
+
+
+def tell(event: str, text: str) -> None:
+    print(json.dumps({"time": int(time.time()), "event": event, "text": text}), file=sys.stderr, flush=True)
+
+
+def serve(audit: Audit, address: str) -> None:
+    """Serves what an auditor has, in threads that end with the process. A proxy before it limits who asks."""
+
+    class Handler(BaseHTTPRequestHandler):
+        timeout = 10
+
+        def do_GET(self) -> None:
+            body = audit.page(self.path)
+            self.send_response(404 if body is None else 200)
+            self.send_header("Content-Type", "application/octet-stream" if "entries" in self.path else "text/plain; charset=utf-8")
+            self.send_header("Content-Length", str(len(body or b"")))
+            self.end_headers()
+            self.wfile.write(body or b"")
+
+        def log_message(self, *_: object) -> None:
+            """Requests are not logged."""
+
+    host, _, port = address.rpartition(":")
+    server = ThreadingHTTPServer((host, int(port)), Handler)
+    threading.Thread(target=server.serve_forever, daemon=True).start()
+
+
+def parsed(words: Optional[Sequence[str]]) -> argparse.Namespace:
+    parser = argparse.ArgumentParser(prog="coniks-audit", description="Audits a key directory, and cosigns its heads.")
+    parser.add_argument("--new-key", type=Path, metavar="FILE", help="draw a key, print its verifier key, and do nothing else")
+    parser.add_argument("--name", required=True, help="this auditor's name, for example audit.example.org")
+    parser.add_argument("--policy", type=Path, metavar="FILE", help="the policy document, not from the service itself")
+    parser.add_argument("--service", metavar="URL", help="the directory's service")
+    parser.add_argument("--folder", type=Path, metavar="DIR", help="where the entries are, the note, the metrics and the alarm")
+    parser.add_argument("--key", type=Path, metavar="FILE", help="the key that cosigns")
+    parser.add_argument("--peer", nargs=2, action="append", default=[], metavar=("URL", "KEY"), help="another auditor")
+    parser.add_argument("--interval", type=float, default=30, metavar="N", help="seconds between rounds (default: %(default)s)")
+    parser.add_argument("--once", action="store_true", help="make one round, and end")
+    parser.add_argument("--listen", metavar="HOST:PORT", help="serve what this auditor has")
+    given = parser.parse_args(words)
+    if not given.new_key and None in (given.policy, given.service, given.folder, given.key):
+        parser.error("--policy, --service, --folder and --key are expected, or --new-key")
+    return given
+
+
+def new_key(path: Path, name: str) -> int:
+    """Draws a key, and prints its verifier key."""
+    key = SigningKey.generate()
+    with open(path, "xb", opener=lambda it, flags: os.open(it, flags, 0o600)) as file:
+        file.write(bytes(key))
+    print(Auditor(name, bytes(key.verify_key)))
+    return 0
+
+
+def run(given: argparse.Namespace) -> int:
+    """Audits until SIGTERM, an alarm, or the end of one round. What it serves stays after an alarm."""
+    policy, key = Policy.read(given.policy.read_bytes()), SigningKey(given.key.read_bytes())
+    peers = [(url, Auditor.read(text)) for url, text in given.peer]
+    audit, end = Audit(given.folder, policy, given.name, key), threading.Event()
+    for number in (signal.SIGTERM, signal.SIGINT):
+        signal.signal(number, lambda *_: end.set())
+    if given.listen:
+        serve(audit, given.listen)
+    is_well = audit.round(given.service, peers)
+    while not (given.once or audit.read("alarm") or end.wait(given.interval)):
+        is_well = audit.round(given.service, peers)
+    if given.listen and not given.once:
+        end.wait()
+    return 1 if audit.read("alarm") or audit.read("alarm.peer") else 0 if is_well else 3
+
+
+def main(words: Optional[Sequence[str]] = None) -> int:
+    """Runs the command."""
+    given = parsed(words)
+    try:
+        return new_key(given.new_key, given.name) if given.new_key else run(given)
+    except (OSError, ValueError, Unusable) as error:
+        tell("ended", f"{type(error).__name__}: {error}")
+        return 3
+
+
+if __name__ == "__main__":
+    sys.exit(main())

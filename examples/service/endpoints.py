@@ -1,0 +1,230 @@
+"""The endpoints of the service, which openapi.json describes."""
+
+from __future__ import annotations
+
+import asyncio
+import base64
+import re
+import time
+from bisect import bisect_left, bisect_right
+from pathlib import Path
+from typing import Callable
+
+from aiohttp import web
+from aiohttp.typedefs import Handler
+from authorising import Authorise, Request
+from collecting import Asked, Collector, shown_key
+from coniks.provider import Change, Fault, Operation, ProviderError, Register, UnknownEpoch
+from coniks.names import BadName
+from connections import LONGEST, Bounds, Connection, Rate
+from holding import LOG, epoch_of, error_of, link_of
+from observing import Metrics
+from prometheus_client import CONTENT_TYPE_LATEST, generate_latest
+from problems import Problem, json_reply, key_of, members_of, name_of, number_of, query_of
+from stapling import Stapler
+
+BYTES, TEXT = "application/octet-stream", "text/plain; charset=utf-8"
+# The page that follows a service, which web/build makes.
+_FOLLOW = Path(__file__).resolve().parents[2] / "web/out/follow.html"
+# The most entries of a catch-up, and the most epochs of a history.
+PAGE, SPAN = 1000, 1000
+# The most seconds that a request waits for its receipt.
+LONGEST_WAIT = 20
+# The parameters of those routes that have some.
+_PARAMETERS = {"/v1/entries": ["after"], "/v1/lookup": ["name", "epoch"], "/v1/history": ["name", "first", "last"]}
+_FOR_EVER = "max-age=31536000, immutable"
+
+
+class Endpoints:
+    """The handlers. Each call of the directory that waits is made by a thread, and none of them waits for a commit."""
+
+    def __init__(self, collector: Collector, stapler: Stapler, metrics: Metrics, authorise: Authorise, bounds: Bounds):
+        self._collector, self._stapler, self._metrics, self._authorise = collector, stapler, metrics, authorise
+        self._holder, self._bounds, self._rate = collector.holder, bounds, Rate(bounds.rate)
+        self.app = web.Application(middlewares=[self._around], client_max_size=bounds.body)
+        self.app.add_routes(self.routes())
+
+    def routes(self) -> list[web.RouteDef]:
+        return [
+            web.get("/", self.page),
+            web.get("/v1/policy", self.policy),
+            web.get("/v1/head", self.head),
+            web.get("/v1/note", self.note),
+            web.get("/v1/entries", self.entries),
+            web.get("/v1/lookup", self.lookup),
+            web.get("/v1/history", self.history),
+            web.post("/v1/operations", self.operate),
+            web.get("/v1/operations/{number}", self.outcome),
+            web.get("/healthz", self.healthz),
+            web.get("/readyz", self.readyz),
+            web.get("/metrics", self.metrics),
+        ]
+
+    @web.middleware
+    async def _around(self, request: web.Request, handler: Handler) -> web.StreamResponse:
+        """Refuses what is too much, makes problems of errors, and notes what became of the request."""
+        assert isinstance(request.protocol, Connection)
+        request.protocol.begun()
+        start, resource = time.monotonic(), request.match_info.route.resource
+        # It has no name of anyone.
+        route = resource.canonical if resource else "none"
+        try:
+            if route == "/" or route.startswith("/v1/"):
+                proxied = request.headers.getall("X-Forwarded-For", [""])[-1].rpartition(",")[2].strip()
+                self._rate.count(proxied if self._bounds.is_behind_proxy else request.remote or "local")
+                request["query"] = query_of(request, *_PARAMETERS.get(route, ()))
+            made = await asyncio.wait_for(handler(request), LONGEST)
+        except ConnectionError:
+            # The client has gone.
+            raise
+        except Exception as error:
+            made = self._problem_of(error).reply()
+        made.headers.update({"X-Content-Type-Options": "nosniff", "Server": "coniks"})
+        seconds = time.monotonic() - start
+        self._metrics.seconds.labels(route, str(made.status)).observe(seconds)
+        members = {"method": request.method, "route": route, "status": made.status, "ms": round(1000 * seconds, 2)}
+        LOG.info("request", extra={"members": members | {"bytes": made.content_length}})
+        request.protocol.replied()
+        return made
+
+    def _problem_of(self, error: Exception) -> Problem:
+        """What a client is told of an error."""
+        if isinstance(error, Problem):
+            return error
+        if isinstance(error, web.HTTPException):
+            return Problem(error.status, "Http", error.reason)
+        if isinstance(error, BadName):
+            return Problem(400, "Name", str(error))
+        if isinstance(error, web.RequestPayloadError):
+            return Problem(400, "Request", "the body is not as the headers say")
+        if isinstance(error, Fault):
+            return Problem(404 if isinstance(error, UnknownEpoch) else 400, type(error).__name__, error.said)
+        if isinstance(error, (ProviderError, asyncio.TimeoutError)):
+            LOG.warning("unavailable", extra=error_of(error))
+            return Problem(503, "Unavailable", "the directory can't be asked now: ask again", 1)
+        self._metrics.unexpected.inc()
+        LOG.error("unexpected", exc_info=error)
+        return Problem(500, "Unexpected", "an error of the service, which its log has")
+
+    async def page(self, request: web.Request) -> web.StreamResponse:
+        if not _FOLLOW.is_file():
+            raise Problem(404, "NoPage", "the page isn't built: web/build makes it")
+        text = await asyncio.to_thread(_FOLLOW.read_text, "utf-8")
+        # As the page has it, and what only a header can say.
+        policy = re.findall('"Content-Security-Policy" content="(.*)"', text)[0] + "; frame-ancestors 'none'"
+        headers = {"Content-Security-Policy": policy, "Referrer-Policy": "no-referrer", "Cache-Control": "no-cache"}
+        return web.Response(text=text, content_type="text/html", headers=headers)
+
+    async def policy(self, request: web.Request) -> web.Response:
+        return reply(bytes(self._holder.keys.policy), TEXT, "public, max-age=3600")
+
+    async def head(self, request: web.Request) -> web.Response:
+        entry = self._holder.directory.chain()[-1]
+        return json_reply({"epoch": epoch_of(entry), "link": link_of(entry).hex(), "entry": entry.hex()})
+
+    async def note(self, request: web.Request) -> web.Response:
+        if not (note := self._stapler.note):
+            raise Problem(404, "NoNote", "no auditor has cosigned a head yet")
+        return reply(bytes(note), TEXT)
+
+    async def entries(self, request: web.Request) -> web.Response:
+        after, chain = number_of(request["query"].get("after", "0"), "after"), self._holder.directory.chain()
+        start = bisect_right(chain, after, key=epoch_of)
+        found = chain[start : start + PAGE]
+        # A page that is full never changes: no entry comes between two others.
+        return reply(b"".join(found), BYTES, "public, " + _FOR_EVER if len(found) == PAGE else "no-store")
+
+    async def lookup(self, request: web.Request) -> web.Response:
+        query = request["query"]
+        name, epoch = name_of(query.get("name", "")), number_of(query["epoch"], "epoch") if "epoch" in query else None
+        if epoch is not None:
+            await self._check_sight(request, name, epoch)
+        found = await asyncio.to_thread(self._holder.reply, name, epoch)
+        self._metrics.count_lookup(found)
+        # A name is private, and at an epoch that was asked for its reply never changes.
+        made = reply(found, BYTES, "no-store" if epoch is None else "private, " + _FOR_EVER)
+        if note := self._stapler.note:
+            made.headers["Coniks-Note"] = base64.b64encode(bytes(note)).decode()
+        return made
+
+    async def history(self, request: web.Request) -> web.Response:
+        query = request["query"]
+        name, first, last = name_of(query.get("name", "")), *(number_of(query.get(it, ""), it) for it in ("first", "last"))
+        chain = self._holder.directory.chain()
+        if bisect_right(chain, last, key=epoch_of) - bisect_left(chain, first, key=epoch_of) > SPAN:
+            raise Problem(400, "TooLong", f"a history has at most {SPAN} epochs: ask for fewer at once")
+        await self._check_sight(request, name, first)
+        proof = await asyncio.to_thread(self._holder.keys.proof, name)
+        return reply(await asyncio.to_thread(self._holder.directory.history, name, proof, first, last), BYTES)
+
+    async def _check_sight(self, request: web.Request, name: str, epoch: int) -> None:
+        """Checks that whoever asks may see an epoch of a name: each recent one, and the owner all."""
+        chain, count = self._holder.directory.chain(), self._bounds.recent
+        if len(chain) <= count or epoch >= (oldest := epoch_of(chain[-count])):
+            return
+        if not await asyncio.to_thread(self._authorise, Request(name, None, None, request.headers)):
+            raise Problem(403, "OldEpoch", f"only the owner of a name may see it before epoch {oldest}")
+
+    async def operate(self, request: web.Request) -> web.Response:
+        operation = await operation_of(request)
+        present = shown_key(await asyncio.to_thread(self._holder.directory.lookup, operation.name))
+        if not await asyncio.to_thread(self._authorise, Request(operation.name, operation, present, request.headers)):
+            raise Problem(403, "Forbidden", "the credentials do not allow this, or the owner of the present key did not sign it")
+        if isinstance(operation, Register) is not (present is None):
+            raise Problem(409, "NameTaken" if present else "NameUnknown", f"the name is {'' if present else 'not '}registered")
+        return await told(request, self._collector.collect(operation))
+
+    async def outcome(self, request: web.Request) -> web.Response:
+        asked = self._collector.asked.get(request.match_info["number"])
+        if asked is None:
+            raise Problem(
+                404, "UnknownOperation", "no such operation is known: look the name up, and ask again if it lacks the key"
+            )
+        return await told(request, asked)
+
+    # What operators ask.
+
+    async def healthz(self, request: web.Request) -> web.Response:
+        """The process runs."""
+        return json_reply({"state": "running"})
+
+    async def readyz(self, request: web.Request) -> web.Response:
+        """Requests may be sent to this process: its directory answers, and its latest epoch is not late."""
+        # If the directory does not answer, this raises.
+        await asyncio.to_thread(self._holder.directory.lookup, "a")
+        is_late = self._holder.age() > 2 * self._holder.keys.period
+        if self._collector.is_over or is_late or self._holder.directory.evidence():
+            raise Problem(503, "NotReady", "the service stops, its latest epoch is late, or its log is another one")
+        return json_reply({"state": "ready"})
+
+    async def metrics(self, request: web.Request) -> web.Response:
+        return reply(generate_latest(self._metrics.registry), CONTENT_TYPE_LATEST)
+
+
+async def operation_of(request: web.Request) -> Operation:
+    """The operation in a request's body."""
+    if request.content_type != "application/json":
+        raise Problem(415, "ContentType", "application/json is expected")
+    members = members_of(await request.read(), "op", "name", "key")
+    kinds: dict[str, Callable[[str, bytes], Operation]] = {"register": Register, "change": Change}
+    if members["op"] not in kinds:
+        raise Problem(400, "Request", "op is register or change")
+    return kinds[members["op"]](name_of(members["name"]), key_of(members["key"]))
+
+
+async def told(request: web.Request, asked: Asked) -> web.Response:
+    """The receipt of an operation, if it is decided as soon as the request wants it (RFC 7240), or where to ask for it."""
+    wait = re.search(r"(?:^|,)\s*wait\s*=\s*([0-9]{1,4})\s*(?:[,;]|$)", request.headers.get("Prefer", ""), re.I)
+    await asyncio.wait([asked.outcome], timeout=min(int(wait[1]), LONGEST_WAIT) if wait else 0)
+    outcome = asked.outcome.result() if asked.outcome.done() else None
+    if isinstance(outcome, Problem):
+        # A new one: an error that is raised again keeps the frames of each time.
+        raise Problem(outcome.status, outcome.fault, str(outcome))
+    stored = {"state": "stored", "epoch": epoch_of(outcome), "entry": outcome.hex()} if outcome else None
+    made = json_reply(stored or {"state": "waiting", "operation": asked.number}, 200 if stored else 202)
+    made.headers["Location"] = f"/v1/operations/{asked.number}"
+    return made
+
+
+def reply(body: bytes, kind: str, cache: str = "no-store") -> web.Response:
+    return web.Response(body=body, headers={"Content-Type": kind, "Cache-Control": cache})

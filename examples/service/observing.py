@@ -1,0 +1,102 @@
+"""What an operator sees of the service: lines of JSON, and metrics for Prometheus. Neither has a name, a key or an opening."""
+
+from __future__ import annotations
+
+import json
+import logging
+from bisect import bisect_left
+from functools import partial
+from typing import Any, Callable
+
+from collecting import Collector
+from coniks.provider import ProviderError, UnknownEpoch
+from coniks.replica import Replica
+from connections import Bounds
+from holding import LOG, epoch_of, error_of
+from prometheus_client import CollectorRegistry, Counter, Gauge, Histogram, ProcessCollector
+from stapling import Stapler
+
+MOST_EPOCHS = 65536
+
+
+class Lines(logging.Formatter):
+    """A record as one JSON object: time, level, event, and what the call added."""
+
+    def format(self, record: logging.LogRecord) -> str:
+        members = {"time": round(record.created, 3), "level": record.levelname.lower(), "event": record.getMessage()}
+        members |= getattr(record, "members", {})
+        if record.exc_info:
+            members["trace"] = self.formatException(record.exc_info)
+        return json.dumps(members, default=str)
+
+
+def log_lines() -> None:
+    """Writes all records to standard error."""
+    handler = logging.StreamHandler()
+    handler.setFormatter(Lines())
+    logging.basicConfig(level=logging.INFO, handlers=[handler])
+    # It has a line for each request that is no HTTP.
+    logging.getLogger("aiohttp.server").setLevel(logging.CRITICAL)
+
+
+class Metrics:
+    """The metrics. Those of the state are read when they are asked for."""
+
+    def __init__(self, collector: Collector, bounds: Bounds, stapler: Stapler):
+        self.registry, self._holder = CollectorRegistry(), collector.holder
+        holder, directory, provider = collector.holder, collector.holder.directory, collector.holder.provider
+        mine: dict[str, Any] = {"registry": self.registry}
+        ProcessCollector(**mine)
+        ProcessCollector("coniks_child", lambda: directory.pid or "none", **mine)
+        self.seconds = Histogram("coniks_request_seconds", "Requests by route and status", ["route", "status"], **mine)
+        self._lookups = Counter("coniks_lookups", "Lookups by what they show", ["outcome"], **mine)
+        self.unexpected = Counter("coniks_unexpected", "Requests that ended by an error of the service", **mine)
+        # The place in the chain of the oldest epoch that lookups may name.
+        self._first = 0
+        gauges: list[tuple[str, str, Callable[[], float]]] = [
+            ("epoch", "The number of the latest epoch", lambda: directory.latest().epoch),
+            ("epoch_age_seconds", "How long ago it began by the policy's clock", holder.age),
+            ("epochs_left", "How many epochs memory has room for", lambda: MOST_EPOCHS - (len(directory.chain()) - self._first)),
+            ("names", "Registered names", lambda: directory.latest().names),
+            ("nodes", "Nodes of the tree", lambda: directory.latest().nodes),
+            ("operations_waiting", "Operations that wait for an epoch", lambda: collector.pending),
+            ("commit_failures", "Commits that failed since the last one that did not", lambda: collector.failures),
+            ("update_pending", "Whether an update waits for its signature", lambda: bool(provider and provider.pending)),
+            ("connections", "Open connections", lambda: len(bounds.open)),
+            ("writer", "Whether this process writes", lambda: provider is not None),
+            ("evidence", "Whether the log is another one than this process has seen", lambda: directory.evidence() is not None),
+        ]
+        if isinstance(directory, Replica):
+            lag = directory.lag
+            gauges.append(("lag_lines", "Lines that this replica lacks", lambda: lag().lines))
+            gauges.append(("lag_seconds", "For how long it may lack one", lambda: lag().seconds))
+        for name, text, call in gauges:
+            Gauge(f"coniks_{name}", text, **mine).set_function(call)
+        failures = Gauge("coniks_auditor_failures", "Notes in a row that an auditor didn't give", ["auditor"], **mine)
+        for url in stapler.failures:
+            failures.labels(url).set_function(partial(stapler.failures.__getitem__, url))
+
+    def find_first(self) -> None:
+        """Finds out which epochs are in memory."""
+
+        def is_known(entry: bytes) -> bool:
+            try:
+                return bool(self._holder.directory.lookup("a", epoch_of(entry)))
+            except UnknownEpoch:
+                return False
+
+        self._first = bisect_left(self._holder.directory.chain(), True, key=is_known)
+
+    def compact(self) -> None:
+        """Stores a snapshot, or takes the one that the writer has stored, and forgets the epochs before it."""
+        try:
+            self._holder.directory.compact()
+            self.find_first()
+            LOG.info("compact")
+        except ProviderError as error:
+            LOG.error("compact failed", extra=error_of(error))
+
+    def count_lookup(self, reply: bytes) -> None:
+        """Counts a lookup by the kind of the end of its proof, which follows the VRF proof."""
+        proof = 212 + int.from_bytes(reply[210:212], "big")
+        self._lookups.labels("present" if reply[proof] == 2 else "absent").inc()
