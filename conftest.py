@@ -25,7 +25,9 @@ with suppress(ImportError):
     settings.register_profile("long", shared, max_examples=20_000)
     settings.load_profile("gate")
 
-pytest.register_assert_rewrite("raising", "stand_ins", "snapshots", "one_chain", "steps", "clusters", "log_calls")
+pytest.register_assert_rewrite(
+    "raising", "stand_ins", "snapshots", "one_chain", "steps", "clusters", "log_calls", "services", "loads", "facts"
+)
 
 
 def pytest_addoption(parser: pytest.Parser) -> None:
@@ -47,6 +49,13 @@ def pytest_addoption(parser: pytest.Parser) -> None:
     group.addoption(
         "--lines", type=int, default=1000, metavar="N", help="random lines, each checked by the page and by the program"
     )
+    group.addoption("--requests", type=int, default=40, metavar="N", help="random requests of each endpoint of examples/service")
+    group.addoption(
+        "--load", type=float, default=0, metavar="N", help="seconds of the whole load on examples/service (default: a short one)"
+    )
+    group.addoption("--lookups", type=int, default=1000, metavar="N", help="lookups a second of the whole load")
+    group.addoption("--readers", type=int, default=2, metavar="N", help="processes that look names up in it")
+    group.addoption("--replicas", type=int, default=0, metavar="N", help="replicas that they ask, in place of the writer")
     group.addoption("--points", type=int, default=500, metavar="N", help="random VRF proofs and as many signatures in JavaScript")
 
 

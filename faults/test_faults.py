@@ -73,7 +73,7 @@ RUNS = [
 ]
 
 # How many worker threads the programs are asked for, the names of the one batch that they build, which has enough jobs for each,
-# and the fewest commitments that a worker takes if others are left.
+# and the fewest commitments in the share of a worker.
 WORKERS = [1, 2, 3, 8, 64]
 NAMES = 2000
 FEWEST = 512
@@ -226,8 +226,8 @@ def restore_lines() -> Lines:
 
 def threads(workers: int) -> int:
     """How many threads this number of workers starts for the names. The program's own thread is a worker too, once for their
-    commitments, of which each worker but the last has at least `FEWEST`, and once for the tree."""
-    share = max(-(-NAMES // workers), FEWEST)
+    commitments, in even shares of `FEWEST` or more, and once for the tree."""
+    share = -(-NAMES // max(min(workers, NAMES // FEWEST), 1))
     return -(-NAMES // share) - 1 + workers - 1
 
 

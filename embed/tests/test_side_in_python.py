@@ -51,6 +51,14 @@ def test_requests(here: Path, requests: Sequence[Request]) -> None:
     check_requests([sys.executable, here / "python/answers.py"], requests, env=bare(PYTHONPATH=str(here / "python/src")))
 
 
+def test_audit(venv: Path, tmp_path: Path) -> None:
+    """The package installs the commands coniks-audit and coniks-client."""
+    needs("PyNaCl")
+    assert b"COMMAND" in run(venv.parent / "coniks-client", "--help", env=bare()).stdout
+    ran = run(venv.parent / "coniks-audit", "--name", "audit.example.org", "--new-key", tmp_path / "key", env=bare())
+    assert ran.returncode == 0 and ran.stdout.startswith(b"audit.example.org+"), ran.stderr.decode()
+
+
 def test_metadata(venv: Path) -> None:
     """What is installed has the licence, and its long description has no link into the checkout."""
     folders = list(venv.parents[1].glob("lib/python*/site-packages/coniks-*.dist-info"))

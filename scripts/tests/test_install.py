@@ -21,7 +21,10 @@ import pytest
 TOP = Path(__file__).resolve().parents[2]
 PROGRAMS = ["keydir", "provider"]
 FILES = [*PROGRAMS, "scripts/install", "scripts/launch", "scripts/crates", "scripts/built", "scripts/processor"]
-FOLDERS = ["docs/man", "embed/python/src/coniks"]
+FOLDERS = ["docs/man", "docs/completion", "embed/python/bin", "embed/python/src/coniks"]
+# The commands of the Python package, and the manual pages.
+COMMANDS = ["coniks-audit", "coniks-client"]
+PAGES = [*PROGRAMS, "coniks-client"]
 SITE = "lib/python3/site-packages"
 PACKAGE = f"{SITE}/coniks"
 SECONDS = 60
@@ -109,8 +112,9 @@ def files(prefix: Path) -> dict[str, int]:
 def wanted() -> dict[str, int]:
     """The files of an installation without the library."""
     modules = [it.name for it in (TOP / "embed/python/src/coniks").iterdir() if it.suffix in (".py", ".typed")]
-    programs = {f"bin/{it}": 0o755 for it in PROGRAMS} | {f"share/man/man1/{it}.1": 0o644 for it in PROGRAMS}
-    return programs | {f"{PACKAGE}/{it}": 0o644 for it in modules}
+    programs = {f"bin/{it}": 0o755 for it in [*PROGRAMS, *COMMANDS]} | {f"share/man/man1/{it}.1": 0o644 for it in PAGES}
+    completions = {"share/bash-completion/completions/coniks-client": 0o644, "share/zsh/site-functions/_coniks-client": 0o644}
+    return programs | completions | {f"{PACKAGE}/{it}": 0o644 for it in modules}
 
 
 def outdate(room: Path, broken: str) -> None:
@@ -332,12 +336,37 @@ def test_page(name: str) -> None:
     assert explained == (listed or re.findall(r"\w+", text.partition("\nline: ")[2].partition(" (")[0])) != []
 
 
+def test_command(room: Path, prefix: Path) -> None:
+    """The commands of the package run where they are installed, and the manual page and the completions have what the help has."""
+    if run("/usr/bin/python3", "-c", "import nacl.signing").returncode:
+        pytest.skip("PyNaCl is missing")
+    install(room, prefix)
+    helps = {it: run(prefix / "bin" / it, "--help", COLUMNS="200") for it in COMMANDS}
+    assert all(it.returncode == 0 and not it.stderr for it in helps.values()), helps
+    commands = re.findall(r"^    (\w+)  ", helps["coniks-client"].stdout, re.M)
+    assert re.findall(r"^\.It Cm (\w+)$", section("coniks-client", "DESCRIPTION"), re.M) == commands != []
+    options = set[str]()
+    for it in commands:
+        options |= {*re.findall(r"^  (?:-h, )?--([a-z]+)", run(prefix / "bin/coniks-client", it, "--help").stdout, re.M)}
+    assert {*re.findall(r"^\.It Fl (?:h , Fl )?-([a-z]+)", section("coniks-client", "OPTIONS"), re.M)} == options
+    for file in ["share/bash-completion/completions/coniks-client", "share/zsh/site-functions/_coniks-client"]:
+        text = (prefix / file).read_text()
+        assert {*re.findall(r"--([a-z]+)", text)} == options and " ".join(commands) in text, file
+
+
+@pytest.mark.parametrize("word, wanted", [("re", "register"), ("", "begin register lookup verify watch compare evidence --help")])
+def test_completion(word: str, wanted: str) -> None:
+    """Bash completes the commands."""
+    script = f'. docs/completion/coniks-client.bash; COMP_WORDS=(coniks-client "{word}") COMP_CWORD=1; _coniks_client; echo "${{COMPREPLY[*]}}"'
+    assert run("bash", "-c", script, home=TOP).stdout == f"{wanted}\n"
+
+
 @pytest.mark.parametrize("name", PROGRAMS)
 def test_sections(name: str) -> None:
     assert re.findall(r"^\.Sh (.*)$", page_of(name), re.M) == SECTIONS
 
 
-@pytest.mark.parametrize("name", PROGRAMS)
+@pytest.mark.parametrize("name", PAGES)
 def test_set(name: str) -> None:
     """A manual page is set without warnings."""
     setters = [it for it in SETTERS if shutil.which(it[0])]

@@ -1,0 +1,11 @@
+"""The tests of `coniks.contacts` need the library for C, and PyNaCl."""
+
+from __future__ import annotations
+
+import pytest
+
+
+@pytest.fixture(autouse=True)
+def _needs_library(library: None) -> None:
+    """Skips a test without the library."""
+    pytest.importorskip("nacl.signing")

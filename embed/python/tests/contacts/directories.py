@@ -1,0 +1,105 @@
+"""Directories for `coniks-client`: each has the second implementation's replies, takes operations, and may lie."""
+
+from __future__ import annotations
+
+import base64
+import json
+import threading
+from contextlib import AbstractContextManager, suppress
+from http.server import BaseHTTPRequestHandler, ThreadingHTTPServer
+from typing import Any, Callable, Mapping, NamedTuple, Optional, Sequence
+from urllib.parse import parse_qs, urlsplit
+
+from client_world import FIRST, World
+
+# A directory whose epochs begin each hour.
+BEGUN = [(1, FIRST), (2, {"carol": b"key of carol"})]
+WORLD = World(BEGUN)
+Batches = Sequence[tuple[int, Mapping[str, bytes]]]
+
+
+class Reply(NamedTuple):
+    """What is sent in the place of an honest reply."""
+
+    body: bytes
+    status: int = 200
+    headers: Mapping[str, str] = {}
+
+
+class Directory(AbstractContextManager["Directory"]):
+    """A service on a port of its own. `lies` has a function for each path whose replies it makes, None for an honest one."""
+
+    def __init__(self, batches: Batches = BEGUN):
+        self.batches = [(epoch, dict(it)) for epoch, it in batches]
+        self.world = World(self.batches)
+        self.lies: dict[str, Callable[[Mapping[str, str]], Optional[Reply]]] = {}
+        self.headers: dict[str, str] = {}
+        self.note = b""
+        self.asked: list[str] = []
+        self.operations: list[dict[str, Any]] = []
+        # Whether an operation is committed at once, and what refuses it.
+        self.commits, self.refusal = True, ""
+        directory = self
+
+        class Handler(BaseHTTPRequestHandler):
+            def do_GET(self) -> None:
+                directory.send(self, b"")
+
+            def do_POST(self) -> None:
+                directory.send(self, self.rfile.read(int(self.headers["Content-Length"])))
+
+            def log_message(self, *_: object) -> None:
+                pass
+
+        self._server = ThreadingHTTPServer(("127.0.0.1", 0), Handler)
+        self._server.daemon_threads = True
+        threading.Thread(target=self._server.serve_forever, args=(0.02,), daemon=True).start()
+        self.url = f"http://127.0.0.1:{self._server.server_address[1]}"
+
+    def commit(self, epoch: int, **keys: bytes) -> None:
+        """Makes an epoch."""
+        self.batches.append((epoch, keys))
+        self.world = World(self.batches)
+
+    @property
+    def latest(self) -> int:
+        return self.batches[-1][0]
+
+    def send(self, handler: BaseHTTPRequestHandler, body: bytes) -> None:
+        self.asked.append(handler.path)
+        parts = urlsplit(handler.path)
+        query = {name: it[0] for name, it in parse_qs(parts.query).items()}
+        lie = self.lies.get(parts.path)
+        reply = (lie(query) if lie else None) or self.honest(parts.path, query, body)
+        handler.send_response(reply.status)
+        for name, value in {**self.headers, **reply.headers}.items():
+            handler.send_header(name, value)
+        handler.end_headers()
+        with suppress(OSError):
+            handler.wfile.write(reply.body)
+
+    def honest(self, path: str, query: Mapping[str, str], body: bytes) -> Reply:
+        if path == "/v1/entries":
+            later = [it for it in self.world.epochs if it > int(query["after"])]
+            return Reply(b"".join(self.world[it] for it in later))
+        if path == "/v1/lookup":
+            return Reply(self.world.reply(query["name"], int(query.get("epoch", self.latest))))
+        if path == "/v1/history":
+            epochs = [it for it in self.world.epochs if int(query["first"]) <= it <= int(query["last"])]
+            return Reply(self.world.history(query["name"], *epochs))
+        if path == "/v1/operations":
+            return self.operated(json.loads(body))
+        return Reply(self.note) if path == "/v1/note" and self.note else Reply(b"", 404)
+
+    def operated(self, operation: dict[str, Any]) -> Reply:
+        self.operations.append(operation)
+        if self.refusal:
+            return Reply(json.dumps({"detail": self.refusal}).encode(), 403)
+        if not self.commits:
+            return Reply(b'{"state":"waiting"}', 202)
+        self.commit(self.latest + 1, **{operation["name"]: base64.b64decode(operation["key"])})
+        return Reply(json.dumps({"state": "stored", "epoch": self.latest, "entry": self.world[self.latest].hex()}).encode())
+
+    def __exit__(self, *_: object) -> None:
+        self._server.shutdown()
+        self._server.server_close()

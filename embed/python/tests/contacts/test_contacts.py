@@ -1,0 +1,744 @@
+"""`coniks-client` over directories that are honest, late, broken and lying, and with the heads of auditors."""
+
+from __future__ import annotations
+
+import base64
+import json
+import os
+import random
+import subprocess
+import sys
+import time
+from contextlib import ExitStack, suppress
+from pathlib import Path
+from typing import Any, Callable, Iterator, Mapping, Optional
+
+import pytest
+
+pytest.importorskip("nacl.signing")
+
+import client_world
+import vouched
+from client_world import World, digest, hour
+from directories import BEGUN, WORLD, Directory, Reply
+from nacl.signing import SigningKey
+from sources import dripping
+from coniks import Head, Policy, _http, contacts
+from coniks._client_state import StateFile
+from coniks.client import Client
+from coniks.notes import Auditor, Note, cosign, text_of
+from coniks.vouching import Place, first, following
+
+TOP = Path(__file__).resolve().parents[4]
+POLICY = Policy.read(client_world.POLICY.encode())
+NOW = hour(3)
+KEYS = {name: SigningKey(name.encode().ljust(32)) for name in ["one", "two", "three", "four"]}
+AUDITORS = {name: Auditor(name, bytes(key.verify_key)) for name, key in KEYS.items()}
+# A directory that parts from the honest one: at its latest epoch, before it, and by its numbers.
+FORKS = [
+    World([BEGUN[0], (2, {"alice": b"key of mallory"})]),
+    World([(1, {"alice": b"key of mallory"}), (2, {})]),
+    World([BEGUN[0], (3, {"alice": b"key of mallory"})]),
+]
+
+
+class Person:
+    """A client with its state, in the process of the test."""
+
+    def __init__(self, room: Path, capture: pytest.CaptureFixture[str]):
+        self.room, self.state, self._capture = room, room / "state", capture
+        (room / "policy").write_bytes(bytes(POLICY))
+        (room / "token").write_text("a token\n")
+
+    def run(self, command: str, *words: str) -> tuple[int, list[dict[str, Any]]]:
+        """The status, and the lines as JSON."""
+        status = contacts.main([command, "--state", str(self.state), "--json", *words])
+        captured = self._capture.readouterr()
+        assert "Traceback" not in captured.err
+        return status, [json.loads(it) for it in captured.out.splitlines()]
+
+    def begin(self, directory: Directory, *auditors: tuple[str, str], faulty: int = 0) -> int:
+        words = [word for it in auditors for word in ("--auditor", *it)]
+        files = ["--policy", str(self.room / "policy"), "--token", str(self.room / "token"), "--faulty", str(faulty)]
+        return self.run("begin", "--service", directory.url, *files, *words)[0]
+
+    def stored(self) -> Any:
+        return json.loads(self.state.read_bytes().partition(b"\n")[2])
+
+
+class Clock:
+    """The time, which is in the latest epoch of a directory unless it is set."""
+
+    def __init__(self) -> None:
+        self.latest: Callable[[], int] = lambda: 0
+        self.seconds: Optional[int] = None
+
+    def __call__(self) -> int:
+        return max(NOW, hour(self.latest())) if self.seconds is None else self.seconds
+
+
+@pytest.fixture
+def clock(monkeypatch: pytest.MonkeyPatch) -> Clock:
+    it = Clock()
+    monkeypatch.setattr(time, "time", it)
+    monkeypatch.setitem(Client.__init__.__kwdefaults__, "clock", it)
+    return it
+
+
+@pytest.fixture
+def directory(clock: Clock) -> Iterator[Directory]:
+    with Directory() as it:
+        clock.latest = lambda: it.latest
+        yield it
+
+
+@pytest.fixture
+def person(tmp_path: Path, capsys: pytest.CaptureFixture[str], directory: Directory) -> Person:
+    """A client that has begun with the honest directory, without auditors."""
+    it = Person(tmp_path, capsys)
+    assert it.begin(directory) == 0
+    return it
+
+
+def test_contacts(person: Person, directory: Directory) -> None:
+    """A key is looked up, verified and compared with the one before. A name has one form."""
+    status, lines = person.run("lookup", "ALICE")
+    assert status == 0 and (lines[0]["name"], lines[0]["key"], lines[0]["epoch"]) == ("alice", "key of alice", 2)
+    assert "have not verified" in lines[0]["text"] and "nobody notices" in lines[1]["text"]
+    assert person.run("verify", "alice", "key of mallory")[0] == 1
+    assert person.run("verify", "alice", "key of alice")[0] == 0
+    status, lines = person.run("lookup", "alice")
+    assert (status, lines[0]["change"]) == (0, "same") and "have not verified" not in lines[0]["text"]
+    status, lines = person.run("lookup", "nobody")
+    assert status == 4 and lines[0]["key"] is None and person.run("verify", "nobody", "k")[0] == 1
+    assert "/v1/lookup?name=alice" in directory.asked and set(person.stored()["seen"]) == {"alice"}
+
+
+def test_sentences(person: Person, capsys: pytest.CaptureFixture[str]) -> None:
+    """Without --json a sentence is printed, with the directory's name."""
+    assert contacts.main(["lookup", "--state", str(person.state), "alice"]) == 0
+    assert (
+        'keys.example.com: "alice" has the key "key of alice". You have not verified it yet (epoch 2)\n' in capsys.readouterr().out
+    )
+
+
+def test_own_name(person: Person, directory: Directory) -> None:
+    """A registered key is a first record, a changed one the record after it, and each epoch is verified."""
+    status, lines = person.run("register", "Dave", "key one")
+    assert status == 0 and (lines[0]["key"], lines[0]["epochs"]) == ("key one", [3])
+    record = directory.world.epochs[3].names[client_world.index("dave")][2]
+    read = vouched.record_of(record)
+    assert read and (read.number, read.key) == (1, b"key one") and read.is_signed(digest(), b"dave", read.voucher)
+    assert person.run("register", "dave", "key one")[0] == 0 and len(directory.operations) == 1, "once"
+    directory.commit(4)
+    directory.commit(5)
+    assert person.run("watch")[1][0]["epochs"] == [4, 5]
+    status, lines = person.run("register", "dave", "key two")
+    changed = directory.world.epochs[6].names[client_world.index("dave")][2]
+    assert status == 0 and lines[0]["epochs"] == [6] and directory.operations[1]["op"] == "change"
+    assert vouched.compared(digest(), b"dave", record, changed) == "vouched"
+    assert person.run("watch")[0] == 0 and not person.stored()["found"]
+
+
+def test_waiting(person: Person, directory: Directory) -> None:
+    """An operation may wait for its epoch, or be lost: the same command goes on."""
+    directory.commits = False
+    for _ in range(2):
+        status, lines = person.run("register", "dave", "key one")
+        assert status == 3 and "waits" in lines[0]["text"]
+    assert person.run("register", "dave", "another key")[0] == 3
+    assert len({it["key"] for it in directory.operations}) == 1 and person.run("watch")[0] == 3
+    directory.commits = True
+    assert person.run("register", "dave", "key one")[0] == 0 and person.run("watch")[0] == 0
+    assert directory.operations[-1]["key"] == directory.operations[0]["key"]
+
+
+def test_refused(person: Person, directory: Directory) -> None:
+    """What a service refuses isn't watched, and its words do nothing to a terminal."""
+    directory.refusal = "no \x1b[2J\u202e, said the service"
+    status, lines = person.run("register", "dave", "key one")
+    assert status == 3 and lines[0]["text"].endswith("no ?[2J?, said the service") and not person.stored()["own"]
+    directory.refusal = ""
+    assert person.run("register", "alice", "key of alice")[0] == 0, "the directory of the test takes each operation"
+
+
+def test_refused_after_it_was_stored(person: Person, directory: Directory) -> None:
+    """A refusal of what an earlier run had stored counts for nothing."""
+    directory.commits = False
+    person.run("register", "dave", "key one")
+    directory.commit(3, dave=base64.b64decode(directory.operations[0]["key"]))
+    directory.refusal = "the name is registered already"
+    status, lines = person.run("register", "dave", "key one")
+    assert status == 0 and lines[0]["epochs"] == [3]
+
+
+def test_another_key_from_the_start(person: Person, directory: Directory) -> None:
+    """A directory that takes a registration, and then shows another key, is told."""
+
+    def lie(_: Mapping[str, str]) -> Reply:
+        directory.commit(3, dave=b"key of mallory")
+        return Reply(b'{"state":"stored","epoch":3}')
+
+    directory.lies["/v1/operations"] = lie
+    status, lines = person.run("register", "dave", "key one")
+    assert status == 1 and '"key of mallory"' in lines[0]["text"]
+
+
+def test_replaced_key(person: Person, directory: Directory) -> None:
+    """A key that the directory replaces is noticed by its owner and by a friend, also if it is put back."""
+    person.run("register", "dave", "key one")
+    record = directory.world.epochs[3].names[client_world.index("dave")][2]
+    friend_sees(person, directory, record)
+    directory.commit(4, dave=b"key of mallory")
+    directory.commit(5, dave=record)
+    status, lines = person.run("watch")
+    assert status == 1 and lines[0]["epochs"] == [4] and "key of mallory" in lines[0]["text"]
+    assert convicted(person) == ["unvouched"]
+    assert person.run("watch")[0] == 1, "it is not forgotten"
+
+
+def test_refused_page(person: Person, directory: Directory, monkeypatch: pytest.MonkeyPatch) -> None:
+    """What a page of a history shows is told and kept, though the service refuses the next one."""
+    monkeypatch.setattr(contacts, "_SPAN", 1)
+    person.run("register", "dave", "key one")
+    record = directory.world.epochs[3].names[client_world.index("dave")][2]
+    directory.commit(4, dave=b"key of mallory")
+    directory.commit(5, dave=record)
+    directory.lies["/v1/history"] = lambda query: Reply(b"", 500) if query["first"] == "5" else None
+    assert person.run("watch")[0] == 1 and convicted(person) == ["unvouched"]
+
+
+def friend_sees(person: Person, directory: Directory, record: bytes) -> None:
+    """A friend has the record, and then another one is shown."""
+    other = Person(person.room, person._capture)
+    other.state = person.room / "friend"
+    other.begin(directory)
+    assert other.run("verify", "dave", "key one")[0] == 0
+    directory.batches.append((4, {"dave": record + b"x"}))
+    directory.world = World(directory.batches)
+    for words in [("lookup", "dave"), ("verify", "dave", "key one"), ("verify", "dave", "key onex")]:
+        status, lines = other.run(*words)
+        assert status == 1, words
+    assert other.stored()["seen"]["dave"]["value"] == record.hex() and convicted(other) == ["unvouched"]
+    directory.batches.pop()
+    directory.world = World(directory.batches)
+
+
+def convicted(person: Person) -> list[str]:
+    """What the second implementation says of the evidence."""
+    status, lines = person.run("evidence")
+    words = [sys.executable, str(TOP / "cases/second/convicts"), str(person.room / "policy")]
+    ran = subprocess.run(words, input="".join(json.dumps(it) + "\n" for it in lines), capture_output=True, text=True)
+    assert (status, ran.returncode) == (1, 0), ran.stdout + ran.stderr
+    return [it.partition(":")[0] for it in ran.stdout.splitlines()]
+
+
+CHANGES: list[tuple[str, Callable[[bytes], Optional[bytes]], int, str]] = [
+    ("the owner's", lambda it: following(Place(POLICY.digest, "dave"), KEYS["one"], it, b"l"), 0, "vouched"),
+    ("another owner's", lambda it: first(Place(POLICY.digest, "dave"), KEYS["two"], b"l"), 1, "unvouched"),
+    ("plain", lambda it: b"l", 1, "unvouched"),
+    ("none", lambda it: None, 1, "unvouched"),
+]
+
+
+@pytest.mark.parametrize("what, change, status, told", CHANGES, ids=[it[0] for it in CHANGES])
+def test_changes(
+    what: str,
+    change: Callable[[bytes], Optional[bytes]],
+    status: int,
+    told: str,
+    person: Person,
+    directory: Directory,
+    clock: Clock,
+) -> None:
+    """A friend takes the change that the owner signed, and no other."""
+    record = first(Place(POLICY.digest, "dave"), KEYS["one"], b"k")
+    directory.commit(3, dave=record)
+    assert person.run("lookup", "dave")[0] == 0
+    value = change(record)
+    if value is None:
+        removed = World([(1, {}), (2, {}), (4, {})])
+        entry = resigned_after(directory.world, removed)
+        clock.seconds = hour(4)
+        pages = {"2": directory.world[3] + entry, "3": entry, "4": b""}
+        directory.lies["/v1/entries"] = lambda query: Reply(pages[query["after"]])
+        directory.lies["/v1/lookup"] = lambda _: Reply(removed.reply("dave", 4, entry=entry))
+    else:
+        directory.commit(4, dave=value)
+    found, lines = person.run("lookup", "dave")
+    assert (found, lines[0]["change"]) == (status, told) and ("l" if value else None) == lines[0]["key"]
+    assert convicted(person) == ["unvouched"] if status else not person.stored()["found"]
+
+
+def resigned_after(world: World, removed: World) -> bytes:
+    """The entry of epoch 4 of another directory, as one that follows epoch 3."""
+    body = removed[4][:9] + (3).to_bytes(8, "big") + removed[4][17:49] + world.link(3) + removed[4][81:145]
+    return client_world.signed(body)
+
+
+def test_plain_change(person: Person, directory: Directory) -> None:
+    """Nobody vouches for a plain key: a friend must ask, and says so by `verify`."""
+    person.run("lookup", "alice")
+    directory.commit(3, alice=b"second key of alice")
+    for _ in range(2):
+        status, lines = person.run("lookup", "alice")
+        assert (status, lines[0]["change"], lines[0]["before"]) == (1, "unknown", "key of alice")
+    assert person.run("verify", "alice", "second key of alice")[0] == 0 and person.run("lookup", "alice")[0] == 0
+    assert not person.stored()["found"]
+
+
+def reply_of(world: World, name: str, epoch: int) -> Callable[[Mapping[str, str]], Optional[Reply]]:
+    return lambda _: Reply(world.reply(name, epoch))
+
+
+ALICE = WORLD.reply("alice", 2)
+LIES: dict[str, tuple[str, Callable[[Mapping[str, str]], Optional[Reply]]]] = {
+    "an older epoch": ("/v1/lookup", reply_of(WORLD, "alice", 1)),
+    "another's reply": ("/v1/lookup", reply_of(WORLD, "bob", 2)),
+    "another's VRF proof": ("/v1/lookup", lambda _: Reply(WORLD.reply("alice", 2, vrf=client_world.vrf_proof("bob")))),
+    "another key": ("/v1/lookup", lambda _: Reply(ALICE[:-1] + b"x")),
+    "another's proof": ("/v1/lookup", lambda _: Reply(WORLD.reply("alice", 2, proof=WORLD.proof("bob", 2)))),
+    "no byte": ("/v1/lookup", lambda _: Reply(b"")),
+    "a byte more": ("/v1/lookup", lambda _: Reply(ALICE + b"x")),
+    "a byte less": ("/v1/lookup", lambda _: Reply(ALICE[:-1])),
+    "a huge reply": ("/v1/lookup", lambda _: Reply(bytes(1 << 22))),
+    "a redirect": ("/v1/lookup", lambda _: Reply(b"", 302, {"Location": "http://127.0.0.1:1/"})),
+    "an error": ("/v1/lookup", lambda _: Reply(b'{"detail":7}', 500)),
+    "no entries": ("/v1/entries", lambda _: Reply(b"")),
+    "cut entries": ("/v1/entries", lambda _: Reply(WORLD[1][:-1])),
+    "an entry that is not signed": ("/v1/entries", lambda _: Reply(WORLD[2] + bytes(209))),
+    "huge entries": ("/v1/entries", lambda _: Reply(bytes(209 * 5000))),
+    "entries in another order": ("/v1/entries", lambda _: Reply(WORLD[2] + WORLD[1])),
+    "redirected entries": ("/v1/entries", lambda _: Reply(b"", 301, {"Location": "/v1/entries?after=0"})),
+}
+
+
+@pytest.mark.parametrize("what", LIES)
+def test_lies(what: str, person: Person, directory: Directory) -> None:
+    """What anyone on the way can make of a reply is refused, shows no key, is no alarm, and is forgotten."""
+    before = person.stored()
+    path, directory.lies[path] = LIES[what][0], LIES[what][1]
+    for words in [("lookup", "alice"), ("verify", "alice", "key of alice")]:
+        status, lines = person.run(*words)
+        assert status == 3 and not any("key" in it for it in lines), lines
+    after = person.stored()
+    assert after == before
+    del directory.lies[path]
+    assert person.run("lookup", "alice")[0] == 0
+
+
+@pytest.mark.parametrize("fork", FORKS, ids=["the latest entry", "an earlier entry", "other numbers"])
+def test_forks(fork: World, person: Person, directory: Directory) -> None:
+    """Another chain than before convicts the directory."""
+    directory.world = fork
+    status, lines = person.run("lookup", "alice")
+    assert status == 1 and not any("key" in it for it in lines) and convicted(person) == ["overlap"]
+    directory.world = WORLD
+    assert person.run("lookup", "alice")[0] == 1 and len(person.stored()["found"]) == 1, "it is not forgotten"
+
+
+def test_late(person: Person, directory: Directory, clock: Clock) -> None:
+    """A directory that shows no new epoch is not believed any more, and neither is one whose clock is ahead."""
+    clock.seconds = hour(5, 10)
+    status, lines = person.run("lookup", "alice")
+    assert status == 3 and lines[0]["cause"] == "STALE"
+    directory.commit(9)
+    assert person.run("lookup", "alice")[1][0]["cause"] == "FUTURE"
+
+
+def test_slow(person: Person, monkeypatch: pytest.MonkeyPatch) -> None:
+    """A server that sends a byte now and then keeps a client only for its time."""
+    monkeypatch.setattr(_http, "SECONDS", 1.0)
+    for head in [b"HTTP/1.1 200 OK\r\nA: ", b"HTTP/1.1 200 OK\r\nContent-Length: 9999\r\n\r\n"]:
+        with dripping(head) as url:
+            StateFile(person.state).write({**person.stored(), "service": url})
+            start = time.monotonic()
+            assert person.run("lookup", "alice")[0] == 3 and time.monotonic() < start + 30
+
+
+def test_no_service(person: Person) -> None:
+    for url in ["http://127.0.0.1:1", "ftp://x", "x", "http://[", "file:///etc/passwd", ""]:
+        StateFile(person.state).write({**person.stored(), "service": url})
+        assert person.run("lookup", "alice")[0] == 3
+
+
+NAMES = ["", "a\nb", "a\x1b[2Jb", "a\x00b", "\udce4", "\ud800", "x" * 256, "x" * 100_000, "\u0378", "\u00fc" * 128]
+
+
+@pytest.mark.parametrize("name", NAMES, ids=range(len(NAMES)))
+def test_hostile_names(name: str, person: Person, directory: Directory, capsys: pytest.CaptureFixture[str]) -> None:
+    """A name that is none is refused in one line before anything is asked."""
+    count = len(directory.asked)
+    for words in [["lookup", name], ["register", name, "k"], ["verify", name, "k"]]:
+        with pytest.raises(SystemExit) as ended:
+            contacts.main([words[0], "--state", str(person.state), *words[1:]])
+        text = capsys.readouterr().err
+        assert ended.value.code == 2 and len(text) < 1000 and text.isascii() and "\x1b" not in text
+    assert len(directory.asked) == count
+
+
+SHOWN = [
+    ("a\u202eb", "a\\u{202e}b"),
+    ("a\u200bb", "a\\u{200b}b"),
+    ('a"b', "a\\u{22}b"),
+    ("\u0430lice", "(U+0430 U+006C"),
+    ("a\\b", "\\u{5c}"),
+]
+
+
+@pytest.mark.parametrize("name, text", SHOWN)
+def test_shown_names(name: str, text: str, person: Person) -> None:
+    """What isn't seen in a name, and what looks like another letter, is written out."""
+    status, lines = person.run("lookup", name)
+    assert status == 4 and text in lines[0]["text"] and "\u202e" not in lines[0]["text"]
+
+
+@pytest.mark.parametrize("key", [b"\x1b[2J", b'x" (epoch 9)', b"\xff\xfe", "\u202e".encode(), b"base64:eA==", b"a\nb", bytes(32)])
+def test_shown_keys(key: bytes, person: Person, directory: Directory) -> None:
+    """A key that is no plain text is shown in base64, and what is shown is taken back."""
+    directory.commit(3, dave=key)
+    status, lines = person.run("lookup", "dave")
+    shown = "base64:" + base64.b64encode(key).decode()
+    assert status == 0 and lines[0]["key"] == shown and f'"{shown}"' in lines[0]["text"]
+    assert person.run("verify", "dave", shown)[0] == 0
+
+
+@pytest.mark.parametrize("key", ["", "base64:", "base64:!", "base64:eA", "x" * 16241, "\udce4"])
+def test_bad_keys(key: str, person: Person, directory: Directory, capsys: pytest.CaptureFixture[str]) -> None:
+    for command in ["register", "verify"]:
+        with pytest.raises(SystemExit) as ended:
+            contacts.main([command, "--state", str(person.state), "dave", key])
+        assert ended.value.code == 2 and "a key is text" in capsys.readouterr().err
+    assert not directory.operations
+
+
+# The state.
+
+
+def test_state_of_another_directory(person: Person, directory: Directory, tmp_path: Path) -> None:
+    """Parts of two states can't be mixed."""
+    person.run("register", "dave", "key one")
+    person.run("register", "erin", "key two")
+    members = person.stored()
+    others = [
+        {**members, "policy": members["policy"].replace("keys.example.com", "keys.example.org")},
+        {**members, "chain": members["chain"][:-2] + "00"},
+        {**members, "own": {"dave": members["own"]["erin"], "erin": members["own"]["dave"]}},
+        {**members, "own": {"dave": {**members["own"]["dave"], "value": members["own"]["erin"]["value"]}}},
+        {**members, "own": []},
+        {**members, "auditors": [["http://127.0.0.1:1", "x"]]},
+        {name: it for name, it in members.items() if name != "chain"},
+    ]
+    count = len(directory.asked)
+    for it in others:
+        StateFile(person.state).write(it)
+        status, lines = person.run("watch")
+        assert status == 3 and "was changed" in lines[0]["text"]
+    assert len(directory.asked) == count
+    StateFile(person.state).write(members)
+    assert person.run("watch")[0] == 0
+
+
+def test_damaged_state(person: Person, directory: Directory) -> None:
+    """A state that was cut or changed is refused as a whole, and left as it is."""
+    whole, count = person.state.read_bytes(), len(directory.asked)
+    cuts = [whole[:it] for it in [0, 1, 15, 16, 79, 80, 81, len(whole) // 2, len(whole) - 1]]
+    flips = [whole[:it] + bytes([whole[it] ^ 1]) + whole[it + 1 :] for it in range(0, len(whole), 37)]
+    for text in [*cuts, *flips, whole + b"x", b"\xff" * 200]:
+        person.state.write_bytes(text)
+        status, lines = person.run("watch")
+        assert status == 3 and "cut or changed" in lines[0]["text"] and person.state.read_bytes() == text
+    person.state.unlink()
+    assert "coniks-client begin" in person.run("watch")[1][0]["text"]
+    person.state.mkdir()
+    assert person.run("watch")[0] == 3 and len(directory.asked) == count
+
+
+def test_begun_twice(person: Person, directory: Directory) -> None:
+    """A state isn't overwritten, and one without quorum isn't made."""
+    before = person.state.read_bytes()
+    assert person.begin(directory) == 3 and person.state.read_bytes() == before
+    other = Person(person.room, person._capture)
+    other.state = person.room / "other"
+    pair = [("http://127.0.0.1:1", str(AUDITORS[it])) for it in ("one", "two")]
+    for auditors, faulty in [([pair[0], pair[0]], 0), ([("http://127.0.0.1:1", "x"), pair[0]], 0), (pair, 1), (pair, -1)]:
+        assert other.begin(directory, *auditors, faulty=faulty) == 3 and not other.state.exists()
+    (person.room / "policy").write_bytes(b"x")
+    assert other.begin(directory) == 3 and not other.state.exists()
+
+
+def test_rights(person: Person) -> None:
+    """The state has secret keys: nobody else reads it, whatever is in its place before. A symbolic link stays."""
+    assert person.state.stat().st_mode & 0o777 == 0o600
+    left = person.room / "state.new"
+    left.write_text("left")
+    left.chmod(0o666)
+    assert person.run("lookup", "alice")[0] == 0 and person.state.stat().st_mode & 0o777 == 0o600 and not left.exists()
+    person.state.rename(person.room / "real")
+    person.state.symlink_to(person.room / "real")
+    assert person.run("register", "dave", "key one")[0] == 0
+    assert person.state.is_symlink() and (person.room / "real").stat().st_mode & 0o777 == 0o600
+
+
+def test_second_run(person: Person) -> None:
+    """One run at a time has the state."""
+    file = StateFile(person.state)
+    status, lines = person.run("lookup", "alice")
+    assert status == 3 and "another run" in lines[0]["text"]
+    file.close()
+    assert person.run("lookup", "alice")[0] == 0
+
+
+class Stopped(BaseException):
+    """An end at some moment."""
+
+
+def test_interrupted_at_each_step(person: Person, directory: Directory, monkeypatch: pytest.MonkeyPatch) -> None:
+    """Wherever a registration and a change end, before or after a request or a stored file, the same call goes on, and each key
+    is registered once."""
+    for key in ["key one", "key two"]:
+        steps = 0
+        while interrupted(person, ["register", "dave", key], steps, monkeypatch):
+            steps += 1
+        assert steps > 5 and person.run("register", "dave", key)[0] == 0
+        status, lines = person.run("watch")
+        assert status == 0 and lines[0]["key"] == key
+    record = vouched.record_of(directory.world.epochs[directory.latest].names[client_world.index("dave")][2])
+    assert record and record.number == 2 and not person.stored()["found"]
+
+
+def interrupted(person: Person, words: list[str], at: int, monkeypatch: pytest.MonkeyPatch) -> bool:
+    """Ends a run before its step of this number, or after it. Returns whether there was one."""
+    count = 0
+
+    def counted(call: Callable[..., Any]) -> Callable[..., Any]:
+        def made(*arguments: Any, **more: Any) -> Any:
+            nonlocal count
+            count += 1
+            if count == at // 2 + 1 and at % 2 == 0:
+                raise Stopped
+            found = call(*arguments, **more)
+            if count == at // 2 + 1 and at % 2 == 1:
+                raise Stopped
+            return found
+
+        return made
+
+    with monkeypatch.context() as patch:
+        for module, name in [(contacts, "answered"), (_http, "answered"), (os, "fsync"), (os, "replace")]:
+            patch.setattr(module, name, counted(getattr(module, name)))
+        try:
+            contacts.main([words[0], "--state", str(person.state), "--json", *words[1:]])
+        except Stopped:
+            return True
+    return False
+
+
+@pytest.mark.kills
+def test_kills(person: Person, directory: Directory, request: pytest.FixtureRequest, clock: Clock) -> None:
+    """The process is killed at random moments. The state is always whole, and the key is registered once."""
+    draw = random.Random(request.config.getoption("seed"))
+    words = [sys.executable, "-m", "coniks.contacts", "register", "--state", str(person.state), "dave", "key one"]
+    for _ in range(request.config.getoption("kills")):
+        process = subprocess.Popen(words, stdout=subprocess.DEVNULL, stderr=subprocess.DEVNULL)
+        with suppress(subprocess.TimeoutExpired):
+            process.wait(draw.random() * 0.6)
+        process.kill()
+        process.wait()
+        StateFile(person.state).read()
+    clock.seconds = None
+    assert person.run("register", "dave", "key one")[0] == 0
+    keys = {it["key"] for it in directory.operations}
+    assert len(keys) == 1 and not person.stored()["found"]
+
+
+def test_interrupt(person: Person, monkeypatch: pytest.MonkeyPatch) -> None:
+    """An interrupt by the keyboard ends without a trace of the program."""
+
+    def raising(*_: object) -> None:
+        raise KeyboardInterrupt
+
+    monkeypatch.setattr(contacts, "answered", raising)
+    assert person.run("lookup", "alice")[0] == 130
+
+
+def test_full_disk(person: Person, monkeypatch: pytest.MonkeyPatch) -> None:
+    """A state that can't be stored is an error, and stays as it was."""
+    before = person.state.read_bytes()
+
+    def raising(*_: object) -> None:
+        raise OSError(28, "No space left on device")
+
+    with monkeypatch.context() as patch:
+        patch.setattr(os, "fsync", raising)
+        status, lines = person.run("register", "dave", "key one")
+    assert status == 3 and "No space left" in lines[-1]["text"] and person.state.read_bytes() == before
+
+
+def test_missing_epochs(person: Person, directory: Directory) -> None:
+    """Epochs without a proof are told, and looked at again."""
+    person.run("register", "dave", "key one")
+    directory.commit(4)
+    directory.lies["/v1/history"] = lambda query: Reply(directory.world.history("dave"))
+    status, lines = person.run("watch")
+    assert status == 3 and lines[0]["missing"] == [4] and "epoch 4" in lines[0]["text"]
+    del directory.lies["/v1/history"]
+    assert person.run("watch")[1][0]["epochs"] == [4]
+
+
+def test_lost_epochs(tmp_path: Path, capsys: pytest.CaptureFixture[str], clock: Clock) -> None:
+    """Epochs whose proofs are no longer promised are told by the sentence of docs/FORMATS.md."""
+    text = client_world.policy_text(kept=7200)
+    it = Person(tmp_path, capsys)
+    (tmp_path / "policy").write_text(text)
+    with Directory() as directory:
+        directory.world = World(directory.batches, policy=digest(text))
+        assert it.begin(directory) == 0
+        directory.commits = False
+        it.run("register", "dave", "key one")
+        for epoch in range(3, 9):
+            directory.batches.append((epoch, {"dave": base64.b64decode(directory.operations[0]["key"])} if epoch == 3 else {}))
+        directory.world = World(directory.batches, policy=digest(text))
+        directory.lies["/v1/history"] = lambda query: Reply(directory.world.history("dave", 7, 8))
+        clock.seconds = hour(9)
+        status, lines = it.run("watch")
+        assert status == 3 and '"dave": epochs 3 to 6 can no longer be verified' in [it["text"] for it in lines]
+        assert lines[0]["missing"] == [3, 4, 5, 6]
+
+
+# Auditors.
+
+
+class Auditing(Directory):
+    """An auditor: it has a directory's entries, and a note of one of its heads."""
+
+    def __init__(self, name: str, batches: Any = BEGUN, epoch: int = 2, seconds: int = NOW):
+        super().__init__(batches)
+        self.pair, self._name = (self.url, str(AUDITORS[name])), name
+        self.sign(epoch, seconds)
+
+    def sign(self, epoch: int, seconds: int = NOW, link: Optional[bytes] = None) -> None:
+        text = text_of(POLICY, Head(epoch, link or self.world.link(epoch)))
+        self.note = bytes(Note(text, (cosign(self._name, KEYS[self._name], text, seconds),)))
+
+
+@pytest.fixture
+def auditors(clock: Clock) -> Iterator[list[Auditing]]:
+    with ExitStack() as opened:
+        made = [Auditing(it) for it in KEYS]
+        for it in made:
+            opened.enter_context(it)
+        yield made
+
+
+def test_quorum(tmp_path: Path, capsys: pytest.CaptureFixture[str], directory: Directory, auditors: list[Auditing]) -> None:
+    """Three of four auditors must have the chain, if one may lie."""
+    it = Person(tmp_path, capsys)
+    assert it.begin(directory, *[a.pair for a in auditors], faulty=1) == 0
+    assert it.run("compare")[1][-1]["text"] == "4 of your 4 auditors confirm this chain up to epoch 2"
+    auditors[0].note = b""
+    assert it.run("compare")[0] == 0
+    late = hour(2, -3 * 3600)
+    spoiled: list[Callable[[Auditing], None]] = [
+        lambda a: a.sign(2, late),
+        lambda a: a.sign(2, link=bytes(32)),
+        lambda a: setattr(a, "note", auditors[2].note),
+    ]
+    for spoil in spoiled:
+        spoil(auditors[1])
+        for words in [("compare",), ("lookup", "alice"), ("verify", "alice", "key of alice")]:
+            status, lines = it.run(*words)
+            assert status == 3 and (lines[-1]["agreeing"], lines[-1]["needed"]) == (2, 3), (words, lines)
+    assert not it.stored()["found"]
+
+
+def test_lagging_auditors(
+    tmp_path: Path, capsys: pytest.CaptureFixture[str], directory: Directory, auditors: list[Auditing]
+) -> None:
+    """The quorum's epoch is the latest that so many have. What they have makes the state smaller, and nothing is lost."""
+    it = Person(tmp_path, capsys)
+    for a in auditors[:2]:
+        a.sign(1)
+    it.begin(directory, *[a.pair for a in auditors], faulty=1)
+    assert it.run("compare")[1][-1]["agreed"] == 1
+    size = len(it.stored()["chain"])
+    for a in auditors:
+        a.sign(2)
+    assert it.run("compare")[1][-1]["agreed"] == 2 and len(it.stored()["chain"]) == size - 2 * 218
+    assert it.run("lookup", "alice")[0] == 0
+
+
+@pytest.mark.parametrize("fork", range(len(FORKS)))
+def test_auditor_of_another_chain(
+    fork: int, tmp_path: Path, capsys: pytest.CaptureFixture[str], directory: Directory, auditors: list[Auditing]
+) -> None:
+    """An auditor that was shown another chain has the entries that convict the directory."""
+    it = Person(tmp_path, capsys)
+    it.begin(directory, auditors[0].pair, auditors[1].pair)
+    auditors[1].world = FORKS[fork]
+    auditors[1].sign(max(FORKS[fork].epochs))
+    status, lines = it.run("lookup", "alice")
+    assert status == 1 and lines[0]["key"] == "key of alice" and convicted(it) == ["overlap"]
+
+
+def test_hidden_epochs(tmp_path: Path, capsys: pytest.CaptureFixture[str], directory: Directory, auditors: list[Auditing]) -> None:
+    """Auditors that have epochs which the service does not show don't confirm its chain."""
+    it = Person(tmp_path, capsys)
+    it.begin(directory, auditors[0].pair, auditors[1].pair)
+    for a in auditors[:2]:
+        a.commit(3, alice=b"key of mallory")
+        a.sign(3)
+    assert it.run("lookup", "alice")[0] == 3 and not it.stored()["found"]
+
+
+def test_stapled(tmp_path: Path, capsys: pytest.CaptureFixture[str], directory: Directory, auditors: list[Auditing]) -> None:
+    """The note of a reply spares the auditors, if a quorum cosigned it lately and it is of this chain."""
+    it = Person(tmp_path, capsys)
+    it.begin(directory, *[a.pair for a in auditors], faulty=1)
+
+    def stapled(*names: str, seconds: int = NOW, link: bytes = WORLD.link(2)) -> None:
+        text = text_of(POLICY, Head(2, link))
+        note = Note(text, tuple(cosign(name, KEYS[name], text, seconds) for name in names))
+        directory.headers["Coniks-Note"] = base64.b64encode(bytes(note)).decode()
+
+    def asked() -> bool:
+        count = sum(len(a.asked) for a in auditors)
+        assert it.run("lookup", "alice")[0] == 0
+        return sum(len(a.asked) for a in auditors) > count
+
+    stapled("one", "two", "three")
+    assert not asked()
+    for names, more in [(("one", "two"), {}), (("one", "one", "two"), {}), (("one", "two", "three"), {"seconds": NOW - 4 * 3600})]:
+        stapled(*names, **more)  # type: ignore[arg-type]
+        assert asked(), names
+    stapled("one", "two", "three", link=bytes(32))
+    assert asked()
+    for text in ["", "!", "eA==", "x" * 3000]:
+        directory.headers["Coniks-Note"] = text
+        assert asked(), text
+
+
+def test_no_auditor_twice(tmp_path: Path, capsys: pytest.CaptureFixture[str]) -> None:
+    with pytest.raises(SystemExit) as ended:
+        contacts.main(["begin", "--service", "http://x", "--policy", "x", "--auditor", "http://x", str(AUDITORS["one"])])
+    assert ended.value.code == 2 and "at least two" in capsys.readouterr().err
+
+
+def test_two_under_way(person: Person, directory: Directory) -> None:
+    """What the service refuses for one name does nothing to another one that waits."""
+    directory.commits = False
+    person.run("register", "dave", "key one")
+    directory.refusal = "no"
+    assert person.run("register", "erin", "key two")[0] == 3
+    assert set(person.stored()["own"]) == {"dave"} and person.stored()["own"]["dave"]["next"]
+    directory.commit(3, dave=base64.b64decode(directory.operations[0]["key"]))
+    assert person.run("watch")[0] == 0
+
+
+def test_unusual_outputs(person: Person, monkeypatch: pytest.MonkeyPatch, clock: Clock) -> None:
+    """A terminal without UTF-8, and a reader that goes away, are no alarm."""
+    words = [sys.executable, "-m", "coniks.contacts", "lookup", "--state", str(person.state)]
+    ran = subprocess.run([*words, "\u0142"], capture_output=True, text=True, env=os.environ | {"PYTHONIOENCODING": "ascii"})
+    assert ran.returncode == 3 and not ran.stderr, "the directory of the test is late now"
+    ran = subprocess.run(["bash", "-c", '"$@" | true; echo ${PIPESTATUS[0]}', "bash", *words, "a"], capture_output=True, text=True)
+    assert ran.stdout in ("3\n",) and "Traceback" not in ran.stderr

@@ -1,0 +1,24 @@
+"""The parts of examples/service in the process of a test."""
+
+from __future__ import annotations
+
+import time
+from contextlib import contextmanager
+from pathlib import Path
+from typing import Any, Iterator, Sequence
+
+from coniks.provider import Operation
+from holding import Holder, Keys, Places, make_keys
+
+
+@contextmanager
+def made(program: str, room: Path, period: int = 1000, operations: Sequence[Operation] = ()) -> Iterator[Any]:
+    """A holder over a new directory with one epoch. The clock has the next one."""
+    make_keys(room / "keys", "keys.example.com", int(time.time()) - period - 5, period, 10 * period)
+    places = Places(str(room / "log"), str(room / "guard"), program)
+    holder: Any = Holder(places, Keys(room / "keys"), create=True)
+    holder.provider.commit(1, operations, force=True)
+    try:
+        yield holder
+    finally:
+        holder.close()

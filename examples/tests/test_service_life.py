@@ -1,0 +1,333 @@
+"""That examples/service loses no operation of which it gave a receipt, that lookups wait for no commit, and what it does when a
+signer, the log or another machine stands in the way."""
+
+from __future__ import annotations
+
+import asyncio
+import random
+import signal
+import sys
+import threading
+import time
+from concurrent.futures import ThreadPoolExecutor
+from contextlib import suppress
+from http.client import HTTPException
+from pathlib import Path
+from typing import Any, Callable, Optional
+
+import pytest
+
+pytest.importorskip("aiohttp")
+pytest.importorskip("nacl.signing")
+
+import collecting
+import ecvrf
+from coniks import provider
+from coniks.provider import Change, LogRefused, Operation, Overtaken, Register
+from collecting import Asked, Collector, committed
+from holders import made
+from problems import Problem
+from services import PYTHON, Running, named, until
+
+
+class Askers:
+    """Clients that register names as fast as they can, and note each receipt."""
+
+    def __init__(self, service: Running, of: str):
+        self._service, self._of, self._is_over = service, of, False
+        self.receipts: dict[str, Any] = {}
+        self._threads = [threading.Thread(target=self._run, args=(it,)) for it in range(4)]
+        for it in self._threads:
+            it.start()
+
+    def _run(self, who: int) -> None:
+        number = 0
+        while not self._is_over:
+            number += 1
+            name = f"{self._of}-{who}-{number}"
+            with suppress(OSError, HTTPException):
+                answer = self._service.operate("register", name, name.encode())
+                if answer.status == 200:
+                    self.receipts[name] = answer.json
+
+    def stop(self) -> None:
+        self._is_over = True
+        for it in self._threads:
+            it.join()
+
+
+def check_receipts(service: Running, receipts: dict[str, Any]) -> None:
+    """Each receipt's epoch has its entry, and shows the name's key."""
+    for name, receipt in receipts.items():
+        assert service.entry(receipt["epoch"]).hex() == receipt["entry"], name
+        shown = service.get(f"{named(name)}&epoch={receipt['epoch']}").body
+        assert shown.endswith(name.encode()) and shown[1:210].hex() == receipt["entry"], name
+
+
+@pytest.mark.kills
+@pytest.mark.parametrize("number", [signal.SIGKILL, signal.SIGTERM], ids=["killed", "ended"])
+def test_no_receipt_is_lost(other: Running, number: signal.Signals, request: pytest.FixtureRequest) -> None:
+    """The service is ended at random moments while clients register names."""
+    draw, all_receipts = random.Random(request.config.getoption("seed")), dict[str, Any]()
+    for turn in range(max(2, request.config.getoption("kills") // 4)):
+        other.start("--rate", "100000")
+        askers = Askers(other, f"t{turn}")
+        until(lambda: askers.receipts)
+        time.sleep(draw.random())
+        assert other.end(number) == (0 if number == signal.SIGTERM else -9)
+        askers.stop()
+        all_receipts |= askers.receipts
+    other.start("--rate", "100000", "--recent", "100000")
+    check_receipts(other, all_receipts)
+
+
+def test_end_answers_who_waits(other: Running) -> None:
+    """At SIGTERM who waits is told at once: by a receipt, or that the service stops."""
+    other.start()
+    with ThreadPoolExecutor() as pool:
+        waits = pool.submit(other.operate, "register", "last", b"key")
+        until(lambda: b"coniks_operations_waiting 1.0" in other.get("/metrics").body or waits.done())
+        assert other.end() == 0
+        answer = waits.result()
+    assert answer.status == 200 or answer.fault == "Stopped", answer
+    other.start()
+    assert (other.get(named("last")).body.endswith(b"key")) == (answer.status == 200)
+
+
+SLOW = """
+import runpy, sys, time
+from pathlib import Path
+sys.path[:0] = {path}
+sys.argv = sys.argv[1:]
+import holding
+sign = holding.Keys.sign
+def slowly(self, body):
+    while Path({stop!r}).exists():
+        time.sleep(0.05)
+    return sign(self, body)
+holding.Keys.sign = slowly
+runpy.run_path(sys.argv[0], run_name="__main__")
+"""
+
+
+def test_lookups_wait_for_no_commit(other: Running, monkeypatch: pytest.MonkeyPatch) -> None:
+    """While the signer doesn't answer, lookups go on at the epoch before, and show nothing that isn't stored."""
+    words, stop = Running._words, other.room / "stop"
+
+    def slow(self: Running, command: str) -> list[str]:
+        found = words(self, command)
+        path = [str(Path(found[1]).parent), *sys.path]
+        return [PYTHON, "-c", SLOW.format(path=path, stop=str(stop)), *found[1:]]
+
+    monkeypatch.setattr(Running, "_words", slow)
+    other.start("--rate", "100000")
+    other.operate("register", "alice", b"key")
+    stop.touch()
+    waiting = other.operate("change", "alice", b"other", Prefer="")
+    until(lambda: b"coniks_update_pending 1.0" in other.get("/metrics").body)
+    shown = {other.get(named("alice")).body for _ in range(100)}
+    assert len(shown) == 1 and shown.pop().endswith(b"key"), "they are made while the signer waits"
+    assert other.get(waiting.headers["location"], Prefer="").status == 202
+    stop.unlink()
+    stored = until(lambda: it if (it := other.get(waiting.headers["location"], Prefer="wait=15")).status == 200 else None)
+    assert other.get(named("alice")).body.endswith(b"other") and stored.json["state"] == "stored"
+
+
+def test_one_proof_for_a_name(program: str, tmp_path: Path, monkeypatch: pytest.MonkeyPatch) -> None:
+    """The VRF proof of a name is computed once, for its index, its replies and its operations."""
+    prove: Callable[[bytes, bytes], bytes] = ecvrf.prove
+    names: list[bytes] = []
+
+    def counted(secret: bytes, name: bytes) -> bytes:
+        names.append(name)
+        return prove(secret, name)
+
+    with made(program, tmp_path) as holder:
+        monkeypatch.setattr(ecvrf, "prove", counted)
+        assert len({holder.reply("bob", None) for _ in range(9)}) == 1 and names == [b"bob"]
+        holder.provider.commit(3, [Register("bob", b"key"), Register("carol", b"key")], force=True)
+        assert holder.reply("bob", 3) != holder.reply("carol", 3) and names == [b"bob", b"carol"]
+
+
+# What a commit leaves, in the process of the test.
+
+
+def fail_once(monkeypatch: pytest.MonkeyPatch, target: Any, call: str, error: Exception) -> None:
+    """Has a call fail once."""
+    real = getattr(target, call)
+
+    def once(*_: object) -> object:
+        monkeypatch.setattr(target, call, real)
+        raise error
+
+    monkeypatch.setattr(target, call, once)
+
+
+def epoch_in(asked: Asked) -> int:
+    """The epoch of a receipt."""
+    entry = asked.outcome.result()
+    assert isinstance(entry, bytes)
+    return int.from_bytes(entry[1:9], "big")
+
+
+def batch(*names: str) -> list[Register]:
+    return [Register(it, it.encode()) for it in names]
+
+
+def soon_committed(directory: Any, epoch: int, tried: list[Register]) -> Optional[bytes]:
+    """What a batch becomes, tried again after each error."""
+    for _ in range(3):
+        with suppress(provider.ProviderError):
+            return committed(directory, epoch, tried)
+    raise AssertionError("three tries failed")
+
+
+@pytest.mark.parametrize("after", [False, True], ids=["before", "after"])
+@pytest.mark.parametrize("position", [1, 2], ids=["prepare", "install"])
+def test_failed_appends(program: str, tmp_path: Path, monkeypatch: pytest.MonkeyPatch, after: bool, position: int) -> None:
+    """An append fails before or after the line is stored: the receipt says what the log has."""
+    with made(program, tmp_path) as holder:
+        log, count = holder.log, 0
+        append: Any = type(log).append
+
+        def failing(self: Any, at: int, line: bytes) -> None:
+            nonlocal count
+            count += 1
+            if count != position or after:
+                append(self, at, line)
+            if count == position:
+                raise OSError(5, "planted")
+
+        epoch = holder.provider.epoch_now()
+        monkeypatch.setattr(type(log), "append", failing)
+        tried = batch("alice", "bob")
+        found = soon_committed(holder.provider, epoch, tried) or soon_committed(holder.provider, epoch, tried)
+        assert found == holder.provider.chain()[-1] and holder.provider.lookup("alice").epoch == epoch
+        assert holder.provider.latest().names == 2
+
+
+def test_refused_append(program: str, tmp_path: Path, monkeypatch: pytest.MonkeyPatch) -> None:
+    """A full disk: the operations wait, and are committed once there is room."""
+    with made(program, tmp_path) as holder:
+        fail_once(monkeypatch, type(holder.log), "append", LogRefused("no room"))
+        epoch, tried = holder.provider.epoch_now(), batch("alice")
+        with pytest.raises(LogRefused):
+            committed(holder.provider, epoch, tried)
+        assert committed(holder.provider, epoch, tried) == holder.provider.chain()[-1] and holder.provider.latest().epoch == epoch
+
+
+def test_failed_signer(program: str, tmp_path: Path, monkeypatch: pytest.MonkeyPatch) -> None:
+    """Who asked has no receipt until the signer is back, and then one for the same epoch, also if the clock has gone on."""
+    with made(program, tmp_path) as holder:
+        collector = Collector(holder)
+        fail_once(monkeypatch, holder.keys._signer, "sign", OSError("away"))
+
+        async def story() -> None:
+            asked = collector.collect(Register("alice", b"key"))
+            await collector.commit()
+            assert not asked.outcome.done() and collector.failures == 1 and holder.provider.pending
+            with pytest.raises(Problem):
+                collector.collect(Register("alice", b"other"))
+            second = collector.collect(Register("bob", b"key"))
+            epoch = holder.provider.pending.epoch
+            monkeypatch.setattr(type(holder.provider), "epoch_now", lambda self: epoch + 7)
+            await collector.commit()
+            assert epoch_in(asked) == epoch and not second.outcome.done()
+            await collector.commit()
+            assert epoch_in(second) == epoch + 7 and collector.failures == 0
+
+        asyncio.run(story())
+
+
+def test_refused_operations(program: str, tmp_path: Path) -> None:
+    """An operation that the program refuses doesn't keep the others from their epoch."""
+    with made(program, tmp_path, operations=[Register("bob", b"key")]) as holder:
+        collector = Collector(holder)
+
+        async def story() -> list[Any]:
+            operations: list[Operation] = [
+                Register("alice", b"1"),
+                Register("bob", b"2"),
+                Change("carol", b"3"),
+                Register("dave", b"4"),
+            ]
+            asked = [collector.collect(it) for it in operations]
+            await collector.commit()
+            return [it.outcome.result() for it in asked]
+
+        one, taken, unknown, four = asyncio.run(story())
+        assert one == four == holder.provider.chain()[-1] and holder.provider.latest().epoch == 2
+        assert (taken.fault, unknown.fault) == ("NameTaken", "NameUnknown")
+        assert holder.provider.latest().names == 3 and collector.pending == 0
+
+
+def test_full_epoch(program: str, tmp_path: Path, monkeypatch: pytest.MonkeyPatch) -> None:
+    """No more operations are collected than a batch takes. What waits at the end is committed if the clock has another epoch."""
+    assert collecting.MOST == 4096
+    monkeypatch.setattr(collecting, "MOST", 64)
+    with made(program, tmp_path) as holder:
+        collector = Collector(holder)
+
+        async def story() -> None:
+            for number in range(64):
+                collector.collect(Register(f"name{number}", b"key"))
+            with pytest.raises(Problem, match="64 operations wait"):
+                collector.collect(Register("one more", b"key"))
+            await collector.stop()
+
+        asyncio.run(story())
+        assert holder.provider.latest().names == 64
+
+
+def test_end_amid_a_commit(program: str, tmp_path: Path, monkeypatch: pytest.MonkeyPatch) -> None:
+    """A commit whose task is cancelled goes on in its thread, and who waits has the receipt all the same."""
+    with made(program, tmp_path) as holder:
+        collector, sign = Collector(holder), holder.keys._signer.sign
+        is_asked, may_sign = threading.Event(), threading.Event()
+
+        def slowly(body: bytes) -> Any:
+            is_asked.set()
+            assert may_sign.wait(60)
+            return sign(body)
+
+        async def story() -> Any:
+            monkeypatch.setattr(holder.keys._signer, "sign", slowly)
+            asked = collector.collect(Register("alice", b"key"))
+            committing = asyncio.create_task(collector.commit())
+            await asyncio.to_thread(is_asked.wait, 60)
+            committing.cancel()
+            await asyncio.gather(committing, return_exceptions=True)
+            assert not asked.outcome.done()
+            may_sign.set()
+            await collector.stop()
+            return asked.outcome.result()
+
+        assert asyncio.run(story()) == holder.provider.chain()[-1] and holder.provider.latest().epoch == 2
+
+
+def test_another_writer(program: str, tmp_path: Path) -> None:
+    """If another process committed under the number of a batch, or under a later one, nobody gets its receipt."""
+    with made(program, tmp_path) as holder:
+        holder.provider.commit(2, [Register("alice", b"of the other one")])
+        for epoch in (2, 1):
+            with pytest.raises(Overtaken):
+                committed(holder.provider, epoch, batch("alice"))
+        assert committed(holder.provider, 2, []) == holder.provider.chain()[-1]
+
+
+def test_overtaken(program: str, tmp_path: Path, monkeypatch: pytest.MonkeyPatch) -> None:
+    """A writer that is overtaken commits nothing more, and refuses who waits."""
+    with made(program, tmp_path) as holder:
+        collector, epoch = Collector(holder), holder.provider.latest().epoch
+
+        async def story() -> Any:
+            fail_once(monkeypatch, type(holder.provider), "commit", Overtaken("planted"))
+            asked = collector.collect(Register("alice", b"key"))
+            with pytest.raises(Overtaken):
+                await collector.run()
+            with pytest.raises(Problem, match="the writer"):
+                collector.collect(Register("bob", b"key"))
+            await collector.stop()
+            return asked.outcome.result()
+
+        assert asyncio.run(story()).fault == "Stopped" and holder.provider.latest().epoch == epoch

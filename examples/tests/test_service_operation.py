@@ -1,0 +1,242 @@
+"""What operates examples/service: its unit, proxy and container file, and what RUNBOOK.md says of keys, backups, disks, snapshots and
+another machine."""
+
+from __future__ import annotations
+
+import json
+import re
+import resource
+import shutil
+import signal
+import ssl
+import subprocess
+import tempfile
+import urllib.error
+import urllib.request
+from pathlib import Path
+from typing import Iterator
+
+import pytest
+
+pytest.importorskip("aiohttp")
+pytest.importorskip("nacl.signing")
+
+import tools
+from services import HOME, Running, named, until
+
+DEPLOY = HOME / "deploy"
+UNITS = sorted(it.name for it in DEPLOY.glob("*.service"))
+
+
+@pytest.mark.parametrize("unit", UNITS)
+def test_units(unit: str, tmp_path: Path) -> None:
+    """systemd reads each unit without a complaint, and finds it well hardened."""
+    if not tools.has("systemd-analyze"):
+        pytest.skip("systemd-analyze is missing")
+    text = (DEPLOY / unit).read_text("utf-8")
+    # The paths of an installation aren't there.
+    (tmp_path / unit).write_text(re.sub(r"^(Exec\w+=)\S+", r"\1/bin/true", text, flags=re.M).replace("Documentation=file:", "#"))
+    ran = subprocess.run(["systemd-analyze", "verify", "--man=no", tmp_path / unit], capture_output=True, text=True)
+    assert (ran.returncode, [it for it in ran.stderr.splitlines() if unit in it]) == (0, []), ran.stderr
+    words = ["systemd-analyze", "security", "--offline=yes", "--threshold=25", str(tmp_path / unit)]
+    ran = subprocess.run(words, capture_output=True, text=True)
+    assert ran.returncode == 0, ran.stdout[-3000:] + ran.stderr
+
+
+@pytest.fixture
+def proxied(other: Running, tmp_path: Path) -> Iterator[str]:
+    """The URL of nginx before a service, with the configuration as it is but for paths and ports."""
+    if not tools.has("nginx"):
+        pytest.skip("nginx is missing")
+    other.start("--rate", "3", "--behind-proxy", "--recent", "1000")
+    words = "openssl req -x509 -newkey rsa:2048 -nodes -days 1 -subj /CN=keys.example.com -keyout privkey.pem -out fullchain.pem"
+    subprocess.run(words.split(), cwd=tmp_path, capture_output=True, check=True)
+    port, text = other.port + 1 if other.port < 65000 else other.port - 1, (DEPLOY / "nginx.conf").read_text("utf-8")
+    for old, new in [
+        ("127.0.0.1:8080", f"127.0.0.1:{other.port}"), ("listen 443", f"listen 127.0.0.1:{port}"), ("listen [::]:443 ssl http2;", ""),
+        ("/etc/ssl/coniks", str(tmp_path)), ("/var/log/nginx", str(tmp_path)), ("/var/cache/nginx", str(tmp_path)),
+    ]:  # fmt: skip
+        assert old in text
+        text = text.replace(old, new)
+    own = "".join(f"{it}_temp_path {tmp_path}/{it};" for it in ["client_body", "proxy", "fastcgi", "uwsgi", "scgi"])
+    (tmp_path / "nginx.conf").write_text(f"pid {tmp_path}/pid; user root; events {{}} http {{ {own}\n{text} }}")
+    words_of = ["nginx", "-c", str(tmp_path / "nginx.conf"), "-e", str(tmp_path / "nginx.errors")]
+    ran = subprocess.run([*words_of, "-t"], capture_output=True, text=True)
+    assert ran.returncode == 0 and "warn" not in ran.stderr, ran.stderr
+    server = subprocess.Popen([*words_of, "-g", "daemon off;"], stderr=subprocess.PIPE)
+    try:
+        yield f"https://127.0.0.1:{port}"
+    finally:
+        server.terminate()
+        server.wait(10)
+
+
+def fetched(url: str, **headers: str) -> tuple[int, bytes]:
+    trusting = ssl._create_unverified_context()
+    asked = urllib.request.Request(url, headers={name.replace("_", "-"): it for name, it in headers.items()})
+    try:
+        with urllib.request.urlopen(asked, context=trusting, timeout=10) as found:
+            return found.status, found.read()
+    except urllib.error.HTTPError as error:
+        return error.code, error.read()
+    except urllib.error.URLError:
+        return 0, b""
+
+
+def test_proxy(proxied: str, other: Running, tmp_path: Path) -> None:
+    """Names go through the proxy as they are, addresses can't be made up, and what is for operators isn't there."""
+    until(lambda: fetched(f"{proxied}/v1/policy")[0] == 200)
+    first = int.from_bytes(until(lambda: fetched(f"{proxied}/v1/entries")[1])[1:9], "big")
+    for name in ["%2F..%2Fa%2F%2Fb", "%25%32%66", "a%20b%2Bc%26d", "%C3%A9", "..", "."]:
+        target = f"/v1/lookup?name={name}&epoch={first}"
+        through = until(lambda: it if (it := fetched(proxied + target))[0] != 429 else None)
+        own = until(lambda: it if (it := other.get(target, X_Forwarded_For="192.0.2.9")).status != 429 else None)
+        assert through == (200, own.body), name
+    for target in ["/metrics", "/healthz", "/readyz", "/v1/../metrics", "//metrics", "/v1/%2e%2e/metrics"]:
+        assert fetched(proxied + target)[0] in (400, 404), target
+    found = {fetched(f"{proxied}/v1/head", X_Forwarded_For=f"192.0.2.{it}")[0] for it in range(40)}
+    assert 429 in found, "a client that makes up addresses is counted as one"
+    said = (tmp_path / "coniks.log").read_text()
+    assert "/v1/lookup" in said and "name=" not in said
+
+
+def test_container_file() -> None:
+    """The container file names what is there, pins its base, and ends as an unprivileged user. It is built if Docker runs."""
+    text = re.sub(r"\\\n", " ", (DEPLOY / "Dockerfile").read_text("utf-8"))
+    lines = [it.split(maxsplit=1) for it in text.splitlines() if it and not it.startswith("#")]
+    known = ["FROM", "RUN", "COPY", "USER", "EXPOSE", "STOPSIGNAL", "HEALTHCHECK", "ENTRYPOINT", "CMD"]
+    assert [it for it, _ in lines if it not in known] == [] and re.fullmatch(r"debian:[a-z]+-slim", dict(lines)["FROM"])
+    for source in [rest.split()[0] for what, rest in lines if what == "COPY"]:
+        assert (HOME.parents[1] / source).exists() or source.startswith("crates/"), source
+    for words in [dict(lines)["ENTRYPOINT"], dict(lines)["CMD"], dict(lines)["HEALTHCHECK"].partition("CMD ")[2]]:
+        assert all(isinstance(it, str) for it in json.loads(words))
+    assert int(dict(lines)["USER"]) > 0
+    if subprocess.run(["docker", "info"], capture_output=True).returncode == 0 if tools.has_program("docker") else False:
+        subprocess.run(["docker", "build", "--file", DEPLOY / "Dockerfile", "."], cwd=HOME.parents[1], check=True)
+
+
+def refused_start(service: Running) -> str:
+    """The one line by which a start ends."""
+    words = [*service._words("run"), "--listen", "127.0.0.1:0"]
+    ran = subprocess.run(words, capture_output=True, text=True, timeout=120)
+    assert ran.returncode == 1 and "Traceback" not in ran.stderr, ran.stderr
+    said: str = json.loads(ran.stderr.splitlines()[-1])["error"]
+    return said
+
+
+def test_wrong_keys(other: Running) -> None:
+    """A start with another key ends with what to do, and signs nothing."""
+    other.start()
+    other.operate("register", "alice", b"key")
+    other.end()
+    before = (other.room / "guard").read_bytes()
+    path = other.room / "keys/vrf.key"
+    key = path.read_bytes()
+    path.write_bytes(bytes(32))
+    assert "not those of its policy" in refused_start(other)
+    path.write_bytes(key)
+    path.chmod(0o644)
+    assert "chmod 600" in refused_start(other)
+    path.chmod(0o600)
+    policy = other.room / "keys/policy"
+    text = policy.read_bytes()
+    policy.write_bytes(text.replace(b"epoch-period 1\n", b"epoch-period 2\n"))
+    assert "another policy" in refused_start(other)
+    policy.write_bytes(text)
+    assert (other.room / "guard").read_bytes() == before
+    other.start()
+    assert other.get(named("alice")).body.endswith(b"key")
+
+
+def test_old_backup(other: Running) -> None:
+    """A restored log that lacks signed epochs is refused, and nothing is signed. The whole log is taken."""
+    log = other.room / "log"
+    old = log.read_bytes()
+    other.start()
+    other.operate("register", "alice", b"key")
+    other.end()
+    whole = log.read_bytes()
+    log.write_bytes(old)
+    assert "LogBehind" in refused_start(other)
+    log.unlink()
+    assert "NoDirectory" in refused_start(other)
+    log.write_bytes(whole)
+    log.chmod(0o600)
+    other.start()
+    assert other.get(named("alice")).body.endswith(b"key")
+
+
+def test_full_disk(other: Running) -> None:
+    """While the log can't grow operations wait and lookups go on. Then they are stored."""
+    other.start()
+    other.operate("register", "alice", b"key")
+    size = (other.room / "log").stat().st_size
+    resource.prlimit(other.process.pid, resource.RLIMIT_FSIZE, (size, resource.RLIM_INFINITY))
+    waiting = other.operate("change", "alice", b"other", Prefer="wait=3")
+    assert waiting.status == 202 and other.get(named("alice")).body.endswith(b"key")
+    until(lambda: '"event": "commit failed", "error": "LogRefused: ' in other.errors.read_text())
+    resource.prlimit(other.process.pid, resource.RLIMIT_FSIZE, (resource.RLIM_INFINITY, resource.RLIM_INFINITY))
+    until(lambda: other.get(waiting.headers["location"], Prefer="wait=15").status == 200)
+    assert other.get(named("alice")).body.endswith(b"other")
+
+
+def test_compact(other: Running) -> None:
+    """The order to compact keeps all entries, and each epoch that the policy promises."""
+    other.start("--recent", "1000")
+    for key in [b"1", b"2", b"3"]:
+        other.operate("change" if key != b"1" else "register", "alice", key)
+    other.process.send_signal(signal.SIGUSR2)
+    until(lambda: [it for it in other.lines() if it["event"] == "compact"])
+    chain, first = other.get("/v1/entries").body, other.first()
+    assert chain[:209] == other.entry(first) and len(chain) >= 4 * 209
+    assert other.get(f"{named('alice')}&epoch={first}").status == 200, "the policy promises it"
+    other.end()
+    other.start()
+    assert other.get(named("alice")).body.endswith(b"3") and other.get("/v1/entries").body.startswith(chain)
+
+
+@pytest.mark.postgres
+def test_take_over(packages: None, program: str, tmp_path: Path) -> None:
+    """The writer stops answering, the process of its replica writes in its place, and the old writer ends."""
+    if not (tools.has("PostgreSQL") and tools.has("psycopg")):
+        pytest.skip("PostgreSQL or psycopg is missing")
+    from database import Database
+
+    rooms = [tmp_path / it for it in ["writer", "replica"]]
+    for it in rooms:
+        it.mkdir()
+    with tempfile.TemporaryDirectory() as folder, Database(Path(folder)) as database:
+        place = ("--database", "--log", database.conninfo, "--guard", database.conninfo)
+        writer, replica = (Running(it, program, place=place) for it in rooms)
+        writer.make()
+        shutil.copytree(rooms[0] / "keys", rooms[1] / "keys")
+        writer.start()
+        replica.start("--replica")
+        try:
+            check_take_over(writer, replica)
+        finally:
+            for ended in [writer, replica]:
+                ended.process.kill()
+                ended.process.wait()
+
+
+def check_take_over(writer: Running, replica: Running) -> None:
+    writer.operate("register", "alice", b"key")
+    until(lambda: replica.get(named("alice")).body.endswith(b"key"))
+    until(lambda: replica.get("/readyz").status == 200)
+    refused = replica.operate("change", "alice", b"other")
+    assert (refused.status, refused.fault) == (503, "NoWriter")
+    metrics = replica.get("/metrics").body
+    assert b"coniks_lag_seconds" in metrics and b"coniks_writer 0.0" in metrics and b"coniks_lag" not in writer.get("/metrics").body
+    writer.process.send_signal(signal.SIGSTOP)
+    replica.end()
+    replica.start()
+    assert b"coniks_writer 1.0" in replica.get("/metrics").body
+    until(lambda: replica.operate("change", "alice", b"other").status in (200, 409))
+    writer.process.send_signal(signal.SIGCONT)
+    assert writer.process.wait(60) == 2 and "Overtaken" in writer.lines()[-1]["error"]
+    writer.start("--replica")
+    until(lambda: writer.get(named("alice")).body.endswith(b"other"))
+    assert writer.operate("change", "alice", b"a third").fault == "NoWriter"
+    chains = [it.get("/v1/entries").body for it in (writer, replica)]
+    assert chains[0][: len(chains[1])] == chains[1][: len(chains[0])]
