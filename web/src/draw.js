@@ -9,9 +9,10 @@ import { MARKED, keyText } from "./words.js";
 /**
  * @typedef {import("./reading.js").LookupRow} LookupRow
  * @typedef {import("./lines.js").Lookup} Lookup
+ * @typedef {Pick<LookupRow, "index" | "indexIs" | "verdict">} Shown
  */
 
-/** The part of a refused proof that the first error is about. @param {LookupRow} row */
+/** The part of a refused proof that the first error is about. @param {Shown} row */
 function marked(row) {
   return "status" in row.verdict && row.verdict.status !== undefined ? MARKED[row.verdict.status] : undefined;
 }
@@ -43,7 +44,7 @@ function fact(word, what, isMarked = false) {
   return mark(isMarked, made);
 }
 
-/** Returns the end of the path. @param {LookupRow} row @param {Lookup} lookup */
+/** Returns the end of the path. @param {Shown} row @param {Lookup} lookup */
 function endOf(row, lookup) {
   const [end, wrong] = [lookup.end, marked(row)];
   if (end.kind === "empty") return element("div", "end empty", element("h3", "", "An empty node"), "No index in the tree begins with these bits.");
@@ -72,7 +73,7 @@ const TERMS = [
 /** How the index of a drawing is known. */
 const INDICES = { verified: "verified by its VRF proof", computed: "computed with the demonstration's key", unverified: "which nobody has verified" };
 
-/** @param {LookupRow} row @param {Lookup} lookup @param {Uint8Array} index @param {boolean} isMarked */
+/** @param {Shown} row @param {Lookup} lookup @param {Uint8Array} index @param {boolean} isMarked */
 function captionOf(row, lookup, index, isMarked) {
   const known = toHex(index) === toHex(lookup.index) ? "" : "; the line has another one, which is not used";
   const asked = element("p", "asked", "Asked for ", nameBox(lookup.name), " at the index ", hashButton(toHex(index), "the index"), `, ${INDICES[row.indexIs]}${known}, under the nonce `, hashButton(toHex(lookup.nonce), "the nonce"));
@@ -80,10 +81,14 @@ function captionOf(row, lookup, index, isMarked) {
   return element("figcaption", "", mark(isMarked, asked), element("dl", "", ...terms));
 }
 
-/** The drawing of a lookup's path. @param {LookupRow} row @returns {HTMLElement} */
+/** The drawing of the path in a line. @param {LookupRow} row @returns {HTMLElement} */
 export function pathOf(row) {
   const lookup = lookupOf(row.text);
-  if ("fault" in lookup) return element("p", "unpathed", "The line has no whole proof, so no path is drawn.");
+  return "fault" in lookup ? element("p", "unpathed", "The line has no whole proof, so no path is drawn.") : drawingOf(row, lookup);
+}
+
+/** The drawing of a lookup's path. @param {Shown} row @param {Lookup} lookup @returns {HTMLElement} */
+export function drawingOf(row, lookup) {
   const [wrong, index] = [marked(row), row.index ?? lookup.index];
   const top = element("div", "root", element("h3", "", "Root"), hashButton(toHex(lookup.root), "the root"));
   const levels = element("ol", "levels");

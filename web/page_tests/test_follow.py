@@ -1,0 +1,412 @@
+"""The page that follows a service, over directories of the second implementation that are honest, late, broken and lying."""
+
+from __future__ import annotations
+
+import base64
+import json
+import re
+from pathlib import Path
+from typing import Any, Callable, Iterator, Optional
+
+import pytest
+
+pytest.importorskip("nacl.signing")
+
+import client_world
+from browser import WEB, Browser, count, texts
+from client_world import World, hour
+from coniks import Head, Policy
+from coniks.notes import Auditor, Note, cosign, text_of
+from coniks.vouching import Place, first
+from directories import BEGUN, Directory, Reply
+from nacl.signing import SigningKey
+
+FOLLOW = WEB / "out/follow.html"
+LARGEST = 150_000
+POLICY = Policy.read(client_world.POLICY.encode())
+KEYS = {name: SigningKey(name.encode().ljust(32)) for name in ["one", "two", "other"]}
+AUDITORS = [Auditor(name, bytes(KEYS[name].verify_key)) for name in ["one", "two"]]
+# A directory that parts from the honest one at its latest epoch.
+FORK = World([BEGUN[0], (2, {"alice": b"key of mallory"})])
+DONE = "document.getElementById('state')?.dataset.done === 'true'"
+
+
+def note(world: World, epoch: int, *names: str, seconds: int = 0, keys: Optional[dict[str, SigningKey]] = None) -> bytes:
+    """A head that auditors cosigned, in the epoch after it if nothing else is said."""
+    text = text_of(POLICY, Head(epoch, world.link(epoch)))
+    lines = [cosign(it, (keys or KEYS)[it], text, seconds or hour(epoch + 1)) for it in names or ("one", "two")]
+    return bytes(Note(text, tuple(lines)))
+
+
+class Site(Directory):
+    """A service that has the page, at an origin of its own."""
+
+    def __init__(self) -> None:
+        super().__init__()
+        page = FOLLOW.read_bytes()
+        self.lies["/"] = lambda _: Reply(page, headers={"Content-Type": "text/html"})
+        self.lies["/v1/head"] = lambda _: Reply(b"{}")
+        self.note = note(self.world, 2)
+
+
+class Visitor:
+    """Someone with the page in a browser, whose clock is in an epoch."""
+
+    def __init__(self, browser: Browser, site: Site):
+        self.browser, self.site = browser, site
+        # Of each tab, the script that sets its clock.
+        self._scripts: dict[str, str] = {}
+        self.now(3)
+
+    def now(self, epoch: int) -> None:
+        """Sets the clock of the pages that are opened next in this tab."""
+        self.forget()
+        source = f"Date.now = () => {1000 * hour(epoch)}; window.confirm = () => true;"
+        made = self.browser.call("Page.addScriptToEvaluateOnNewDocument", source=source)
+        self._scripts[self.browser.driver.current_window_handle] = made["identifier"]
+
+    def forget(self) -> None:
+        if script := self._scripts.pop(self.browser.driver.current_window_handle, None):
+            self.browser.call("Page.removeScriptToEvaluateOnNewDocument", identifier=script)
+
+    def open(self) -> str:
+        self.browser.open(f"{self.site.url}/")
+        self.browser.until(DONE)
+        return self.result
+
+    def press(self, button: str, **fields: str) -> str:
+        """Fills fields, presses a button, and returns the result."""
+        for name, text in fields.items():
+            self.browser.value(f"document.getElementById('{name}').value = {json.dumps(text)}; 1")
+        self.browser.value(f"document.getElementById('{button}').click(); 1")
+        self.browser.until(DONE)
+        return self.result
+
+    def begin(self, policy: str = client_world.POLICY, *auditors: str) -> str:
+        self.open()
+        return self.press("start", policy=policy, auditors="\n".join(auditors or map(str, AUDITORS)))
+
+    def look(self, name: str) -> str:
+        return self.press("look", name=name)
+
+    @property
+    def result(self) -> str:
+        return "".join(texts(self.browser, "#result"))
+
+    @property
+    def opinions(self) -> list[str]:
+        return texts(self.browser, "#opinions > li")
+
+    @property
+    def is_verified(self) -> bool:
+        return count(self.browser, "#result .good") > 0
+
+    def shows(self, part: str) -> bool:
+        found: bool = self.browser.value(f"document.getElementById('{part}').checkVisibility()")
+        return found
+
+    def close(self) -> None:
+        self.forget()
+        self.browser.open("about:blank")
+
+
+@pytest.fixture
+def visitor(anywhere: Browser) -> Iterator[Visitor]:
+    site = Site()
+    with site:
+        made = Visitor(anywhere, site)
+        yield made
+        made.close()
+
+
+def test_follows(visitor: Visitor) -> None:
+    """A first visit, a lookup with its path, and later visits that go on from what is stored."""
+    assert visitor.open() == "" and visitor.shows("begin") and not visitor.shows("asking")
+    visitor.browser.forget()
+    visitor.begin()
+    assert not visitor.shows("begin") and visitor.opinions[0] == "2 of your 2 auditors confirm this chain."
+    assert visitor.look(
+        "Alice"
+    ) == 'Verified and stored: "alice" has the key "key of alice" at epoch 2.The authentication path' + path_of(visitor)
+    assert visitor.opinions[1:] == [f"{it} agrees with this chain up to epoch 2" for it in ["one", "two"]]
+    assert "no key at epoch 2" in visitor.look("nobody") and visitor.is_verified
+    visitor.site.commit(3, alice=b"next key")
+    visitor.site.note = note(visitor.site.world, 3)
+    visitor.open()
+    assert not visitor.shows("begin") and len(texts(visitor.browser, "#entries > li")) == 2
+    assert '"next key" at epoch 3' in visitor.look("alice")
+    assert texts(visitor.browser, "#since")[0].endswith(
+        "3 entries, epochs 1 to 3. Each is signed, and has the link of the one before."
+    )
+    assert visitor.site.asked.count("/v1/entries?after=0") == 1, "the chain is taken once"
+    assert all(it.startswith(visitor.site.url) for it in visitor.browser.requests()) and not visitor.browser.complaints()
+
+
+def path_of(visitor: Visitor) -> str:
+    """The text of the path, which has the tree's root and the key."""
+    text = "".join(texts(visitor.browser, "#result figure"))
+    root = visitor.site.world[2][17:49].hex()
+    assert f"{root[:8]}…{root[-4:]}" in text and "key of alice" in text and "verified by its VRF proof" in text
+    return text
+
+
+def test_wrong_beginnings(visitor: Visitor) -> None:
+    one, two = map(str, AUDITORS)
+    assert "no policy document" in visitor.begin(client_world.POLICY.replace("one-chain", "none"))
+    assert "one auditor can't be compared" in visitor.begin(client_world.POLICY, one)
+    assert "listed twice" in visitor.begin(client_world.POLICY, one, one)
+    assert "no verifier key" in visitor.begin(client_world.POLICY, one, two[:-2] + "A=")
+    other = SigningKey(bytes(32)).verify_key
+    assert "no point of prime order" not in visitor.begin(client_world.POLICY, one, str(Auditor("two", bytes(other))))
+    assert visitor.opinions[0].startswith("1 of your 2 auditors confirm this chain, and 2 must")
+
+
+HOSTILE = [
+    "<img src=x onerror=\"document.title='broken'\">", "a&epoch=1", "a#b", "../../healthz", "%00", "a b+c", "alice\u202eecila", "аlice",
+    "javascript:alert(1)", "'\"`;--", "a" * 255,
+]  # fmt: skip
+
+
+def test_hostile_names(visitor: Visitor) -> None:
+    """A name is asked for as it is and shown as text, and what is no name is not asked for."""
+    visitor.begin()
+    for name in HOSTILE:
+        visitor.look(name)
+        assert visitor.is_verified and count(visitor.browser, "#result img, #result a, #result script") == 0
+    assert visitor.browser.value("document.title") == "Follow a key directory"
+    assert "\\u{202e}" in visitor.look("alice\u202eecila") and "not ASCII: U+0430" in visitor.look("аlice")
+    asked = len(visitor.site.asked)
+    for name in ["", "a\u0085", "\ue000\u0378", "é" * 128]:
+        assert "a name " in visitor.look(name) and not visitor.is_verified
+    assert len(visitor.site.asked) == asked, "nothing was asked for"
+
+
+def test_record(visitor: Visitor) -> None:
+    """Of a record that its owner signs, the owner's key is shown."""
+    visitor.site.commit(3, alice=first(Place(POLICY.digest, "alice"), KEYS["one"], b"own key"))
+    visitor.begin()
+    assert '"alice" has the key "own key" in record 1 of its owner at epoch 3' in visitor.look("alice")
+
+
+def test_hostile_key(visitor: Visitor) -> None:
+    """Markup in a key is text."""
+    markup = b"<script>document.title='broken'</script>"
+    visitor.site.commit(3, alice=markup)
+    visitor.begin()
+    assert markup.decode() in visitor.look("alice") and count(visitor.browser, "#result script") == 0
+
+
+LIES: dict[str, tuple[str, Callable[[World, Any], Reply], str]] = {
+    "another name's reply": ("/v1/lookup", lambda world, _: Reply(world.reply("bob", 2)), "VrfProof"),
+    "an older reply": ("/v1/lookup", lambda world, _: Reply(world.reply("alice", 1)), "OtherEpoch"),
+    "another key": ("/v1/lookup", lambda world, _: Reply(world.reply("alice", 2, proof=FORK.proof("alice", 2))), "RootMismatch"),
+    "a cut reply": ("/v1/lookup", lambda world, _: Reply(world.reply("alice", 2)[:-1]), "CutInKey"),
+    "no reply": ("/v1/lookup", lambda *_: Reply(b"", 503), "status 503"),
+    "a long reply": ("/v1/lookup", lambda *_: Reply(bytes(40_000)), "more than 32768 bytes"),
+    "a redirect": ("/v1/lookup", lambda *_: Reply(b"", 302, {"Location": "/v1/head"}), "gives no reply"),
+    "a cut catch-up": ("/v1/entries", lambda world, _: Reply(world[2][:-1]), "CatchUpLength"),
+    "an older chain": ("/v1/entries", lambda world, _: Reply(b""), "shows an older chain than before"),
+    "entries that do not rise": ("/v1/entries", lambda world, _: Reply(world[2] + world[1]), "do not rise"),
+    "an entry that nobody signed": ("/v1/entries", lambda world, _: Reply(bytes(FORK[2][:145]) + bytes(64)), "Signature"),
+}
+
+
+@pytest.mark.parametrize("path, lie, why", LIES.values(), ids=LIES)
+def test_lies(visitor: Visitor, path: str, lie: Callable[[World, Any], Reply], why: str) -> None:
+    """Nothing of what a service makes up is shown as verified, and afterwards an honest one is followed again."""
+    visitor.begin()
+    world = visitor.site.world
+    visitor.site.lies[path] = lambda query: lie(world, query)
+    said = visitor.look("alice")
+    assert said.startswith("Not verified: ") and why in said and not visitor.is_verified
+    del visitor.site.lies[path]
+    assert visitor.look("alice").startswith("Verified") and count(visitor.browser, "#alarms > div") == 0
+
+
+def test_equivocation(visitor: Visitor) -> None:
+    """Two signed entries are shown, and stay when the service is honest again."""
+    visitor.begin()
+    honest, visitor.site.world = visitor.site.world, FORK
+    assert "(Equivocation)" in visitor.look("alice") and not visitor.is_verified
+    for _ in range(2):
+        evidence = texts(visitor.browser, "#alarms pre")
+        assert evidence == [f"overlap\n{honest[2].hex()}\n{FORK[2].hex()}"]
+        visitor.site.world = honest
+        visitor.open()
+    assert '"key of alice"' in visitor.look("alice") and texts(visitor.browser, "#alarms pre") == evidence
+
+
+STALE = hour(2, -3 * 3600)
+NOTES: dict[str, tuple[bytes, list[str], int]] = {
+    "another link": (note(FORK, 2), ["signed another chain at epoch 2"] * 2, 0),
+    "another link of one": (note(FORK, 2, "one"), ["signed another chain at epoch 2", "is in no note"], 0),
+    "one of two": (note(World(BEGUN), 2, "two"), ["is in no note", "agrees"], 1),
+    "another one's key": (note(World(BEGUN), 2, keys={"one": KEYS["other"], "two": KEYS["two"]}), ["is in no note", "agrees"], 1),
+    "long ago": (note(World(BEGUN), 2, seconds=STALE), ["has cosigned nothing lately"] * 2, 0),
+    "an epoch that is hidden": (note(World([*BEGUN, (3, {})]), 3), ["has seen epoch 3, which the service does not show"] * 2, 0),
+    "another directory": (note(World(BEGUN), 2).replace(b"keys.example.com", b"keys.example.net"), ["is in no note"] * 2, 0),
+    "no note": (b"<html>", ["is in no note"] * 2, 0),
+}  # fmt: skip
+
+
+@pytest.mark.parametrize("is_stapled", [False, True], ids=["asked for", "stapled"])
+@pytest.mark.parametrize("document, sayings, agreeing", NOTES.values(), ids=NOTES)
+def test_notes(visitor: Visitor, document: bytes, sayings: list[str], agreeing: int, is_stapled: bool) -> None:
+    """An auditor counts only for what its own key cosigned lately of this chain, and one that signed another chain is shown."""
+    visitor.begin()
+    visitor.site.note = b"" if is_stapled else document
+    visitor.site.headers = {"Coniks-Note": base64.b64encode(document).decode()} if is_stapled else {}
+    assert visitor.look("alice").startswith("Verified")
+    assert visitor.opinions[0] == f"{agreeing} of your 2 auditors confirm this chain, and 2 must: rely on nothing new."
+    assert [b.startswith(f"{a} {said}") for a, b, said in zip(["one", "two"], visitor.opinions[1:], sayings)] == [True, True]
+    assert count(visitor.browser, "#opinions .agreed") == 0
+
+
+def test_late_service(visitor: Visitor) -> None:
+    """By the policy's clock the latest epoch is too old, or has not begun."""
+    visitor.begin()
+    for epoch, why in [(6, "Stale"), (1, "Future")]:
+        visitor.now(epoch)
+        visitor.open()
+        assert f"({why})" in visitor.look("alice") and not visitor.is_verified
+
+
+def test_stored_first(visitor: Visitor) -> None:
+    """What can't be stored isn't shown, and what is shown was stored before."""
+    visitor.begin()
+    visitor.browser.value(
+        """window.put = IDBObjectStore.prototype.put; window.seen = [];
+        IDBObjectStore.prototype.put = () => { throw new DOMException('no room', 'QuotaExceededError'); }; 1"""
+    )
+    assert "no room" in visitor.look("alice") and not visitor.is_verified and visitor.opinions == []
+    visitor.browser.value(
+        """(set => {
+            IDBObjectStore.prototype.put = window.put;
+            const tell = () => window.seen.push(document.querySelectorAll('#result .good').length);
+            Object.defineProperty(IDBTransaction.prototype, 'oncomplete', { set(it) { set.call(this, () => { tell(); it(); }); } });
+        })(Object.getOwnPropertyDescriptor(IDBTransaction.prototype, 'oncomplete').set); 1"""
+    )
+    assert visitor.look("alice").startswith("Verified")
+    assert visitor.browser.value("window.seen") == [0], "nothing is shown until it is stored"
+
+
+def test_cleared(visitor: Visitor) -> None:
+    """A database that is cleared, before a visit or under an open page, is a first visit again, and the page says so."""
+    visitor.begin()
+    visitor.browser.value("new Promise(go => { indexedDB.deleteDatabase('coniks').onsuccess = () => go(1); })")
+    assert "follows no directory" in visitor.look("alice") and not visitor.is_verified
+    assert visitor.shows("begin") and not visitor.shows("chain")
+    visitor.open()
+    assert visitor.shows("begin") and "what was stored was cleared" in "".join(texts(visitor.browser, "#begin"))
+
+
+CHANGES = {
+    "a bit": "it => { it[it.length >> 1] ^= 1; return it; }",
+    "the digest": "it => { it[0] ^= 1; return it; }",
+    "cut": "it => it.slice(0, -1)",
+    "empty": "it => new Uint8Array(0)",
+    "no bytes": "it => 'kept'",
+    "another state": """it => { const kept = JSON.parse(new TextDecoder().decode(it.slice(32))); kept.state = kept.state.slice(0, -2) + '00';
+        const text = new TextEncoder().encode(JSON.stringify(kept)); return bytes_.joined(sha256_.sha256(text), text); }""",
+}
+
+
+@pytest.mark.parametrize("change", CHANGES.values(), ids=CHANGES)
+def test_changed(visitor: Visitor, change: str) -> None:
+    """A database that was changed is not used, and not taken for a first visit: the user decides to forget it."""
+    visitor.begin()
+    visitor.browser.value(
+        f"""(async change => {{ const store = keeping_.browserStore; const before = await store.read();
+        if (!await store.replace(before, change(before.slice()))) throw Error('not stored'); }})({change})"""
+    )
+    assert "was changed" in visitor.look("alice") and not visitor.is_verified
+    assert "was changed" in visitor.open() and not visitor.shows("begin") and visitor.shows("stored")
+    visitor.press("forget")
+    assert visitor.shows("begin") and not visitor.shows("stored")
+    visitor.begin()
+    assert visitor.look("alice").startswith("Verified")
+
+
+def test_two_tabs(visitor: Visitor) -> None:
+    """Two tabs have one chain: what one has seen, the other one goes on from, also if both ask at once."""
+    driver = visitor.browser.driver
+    visitor.begin()
+    first = driver.current_window_handle
+    driver.switch_to.new_window("tab")
+    visitor.now(3)
+    try:
+        visitor.open()
+        visitor.site.commit(3, alice=b"next key")
+        assert '"next key" at epoch 3' in visitor.look("alice")
+        second = driver.current_window_handle
+        visitor.site.batches.pop()
+        visitor.site.world = World(visitor.site.batches)
+        driver.switch_to.window(first)
+        assert "shows an older chain than before" in visitor.look("alice"), "the other tab has seen a later one"
+        visitor.site.commit(3, alice=b"next key")
+        for tab in [first, second] * 3:
+            driver.switch_to.window(tab)
+            visitor.browser.value("document.getElementById('name').value = 'alice'; document.getElementById('look').click(); 1")
+        for tab in [first, second]:
+            driver.switch_to.window(tab)
+            visitor.browser.until(DONE)
+            assert '"next key" at epoch 3' in visitor.result
+        driver.close()
+    finally:
+        driver.switch_to.window(first)
+
+
+def test_slow_tab(visitor: Visitor) -> None:
+    """While a reply is on its way to one tab, another one stores a later epoch: it is not stored over."""
+    visitor.begin()
+
+    def once(query: Any) -> Reply:
+        reply = Reply(visitor.site.world.reply("alice", 2))
+        del visitor.site.lies["/v1/lookup"]
+        visitor.site.commit(3, alice=b"next key")
+        return reply
+
+    visitor.site.lies["/v1/lookup"] = once
+    found = visitor.browser.value(
+        """(async () => {
+            const coniks = await coniks_.Coniks.of(bytes_.fromBase64(document.getElementById('module').textContent.trim()));
+            const ask = async target => { const found = await fetch(target); return { status: found.status, note: '', body: new Uint8Array(await found.arrayBuffer()) }; };
+            const other = new following_.Follower(coniks, keeping_.browserStore, ask);
+            let isFirst = true;
+            const slow = new following_.Follower(coniks, keeping_.browserStore, async target => {
+                const answer = await ask(target);
+                if (target.startsWith('/v1/lookup') && isFirst) { isFirst = false; await other.lookup('alice'); }
+                return answer;
+            });
+            const { epoch } = await slow.lookup('alice');
+            return [Number(epoch), (await slow.view()).entries.length];
+        })()"""
+    )
+    assert found == [3, 3]
+
+
+def test_other_origins(anywhere: Browser, tmp_path: Path) -> None:
+    """From a file, and from a server that is no service, the page says so and shows nothing."""
+    anywhere.open(FOLLOW.as_uri())
+    anywhere.until(DONE)
+    assert "".join(texts(anywhere, "#result")).startswith("Not verified: the service gives no reply")
+    site = Site()
+    with site:
+        site.lies["/v1/head"] = lambda _: Reply(b"", 404)
+        anywhere.open(f"{site.url}/")
+        anywhere.until(DONE)
+        assert "not from a service of a directory" in "".join(texts(anywhere, "#result"))
+
+
+def test_page() -> None:
+    """The page is small, and its policy lets it run its own script alone and send requests to its origin alone."""
+    text = FOLLOW.read_text("utf-8")
+    assert len(text.encode()) <= LARGEST
+    policy = re.findall('"Content-Security-Policy" content="(.*)"', text)[0]
+    rules = dict(it.strip().split(" ", 1) for it in policy.split(";"))
+    assert (
+        rules["default-src"] == "'none'"
+        and rules["connect-src"] == "'self'"
+        and rules["form-action"] == rules["base-uri"] == "'none'"
+    )
+    assert re.fullmatch("'sha256-[A-Za-z0-9+/]{43}=' 'wasm-unsafe-eval'", rules["script-src"]) and "unsafe-inline" not in policy

@@ -1,0 +1,26 @@
+// The form of names, which a service and its clients share (coniks.names): Unicode NFC, without case.
+
+const LONGEST = 255;
+
+/** What no name has: control characters, lone surrogates, and code points that a later version of Unicode may give another form. */
+const REFUSED = /[\p{Cc}\p{Cs}\p{Cn}]/u;
+
+/** A character without case, as Unicode folds it. @param {string} it @returns {string} */
+function folded(it) {
+  if (it === "\u0131") return it;
+  return /\p{Script=Cherokee}/u.test(it) ? it.toUpperCase() : it.toUpperCase().toLowerCase();
+}
+
+/**
+ * The one form of a name. Throws a RangeError for a text that is no name.
+ * @param {string} text
+ * @returns {string}
+ */
+export function canonical(text) {
+  if (REFUSED.test(text)) throw new RangeError("a name is Unicode without control characters, unassigned code points and lone surrogates");
+  // Canonical caseless matching (Unicode, D145), and then NFC.
+  const name = Array.from(text.normalize("NFD"), folded).join("").normalize("NFC");
+  const size = new TextEncoder().encode(name).length;
+  if (size < 1 || size > LONGEST) throw new RangeError(`a name has 1 to ${LONGEST} bytes in its form NFC without case`);
+  return name;
+}
