@@ -12,12 +12,9 @@ use Rattle.std.proofs.lemmas.List.{nil_from_length, take_more}
 use Rattle.std.proofs.lemmas.Option.{slice_get_within, get_or_from_slice_get}
 use Rattle.coniks_proof.specs.Changes.{overwritten, AreInOrder, AreApart}
 use Rattle.coniks_proof.specs.Hashing.{Hashing}
-use Rattle.coniks_tree.specs.Table.{Numbered, hash_of_node, Table}
+use Rattle.coniks_tree.specs.Table.{Numbered, Table}
 use Rattle.coniks_tree.specs.Parts.{Stands, node_count, entry_of_change, weight_of, entries_in, is_made, Placed, AllPlaced}
 use Rattle.coniks_tree.specs.Counts.{new_nodes}
-use Rattle.coniks_tree.proofs.TableLemmas.{Shows-hash}
-use Rattle.coniks_tree.specs.declared.table.Node.{Node}
-use Rattle.coniks_tree.specs.declared.table.Root.{Root}
 use Rattle.coniks_tree.specs.declared.table.Record.{Record}
 use Rattle.coniks_tree.specs.declared.part.Change.{Change}
 use Rattle.coniks_tree.specs.declared.part.Part.{Part, Nothing, Entry, Kept, Made'}
@@ -34,11 +31,6 @@ pub hash_entry : (by : Hashing) (t : Table) (part : Part) (p : List Bool) (es : 
 hash_entry by t part p es x c level is level-is x-is s =
     let one : es ≡ entry_of_change c ∷ [] = subst (λ q. Stands by t q p es) is s in
     x-is ∙ ap (λ l. by.hash (leaf_preimage by.nonce c.index.0 l c.commitment.0)) level-is ∙ sym (node-leaf by p (entry_of_change c)) ∙ ap (node by p) (sym one)
-
-pub hash_kept : (by : Hashing) (t : Table) (part : Part) (p : List Bool) (es : List Numbered) (root : Root) (v : Node)
-    → part ≡ Kept root → slice_get t.nodes root.0 ≡ Some v → Stands by t part p es → (hash_of_node v).0 ≡ node by p es
-hash_kept by t part p es root v is at s =
-    Shows-hash by t root.0 p es v (subst (λ q. Stands by t q p es) is s).0 at
 
 -- the hash of a node over two nodes
 pub hash_made : (by : Hashing) (p q r : List Bool) (es : List Numbered) (d x y : List ℕ)

@@ -8,27 +8,27 @@ use Rattle.coniks_proof.specs.Registry.{Registered}
 use Rattle.coniks_proof.specs.Paths.{siblings, end_of}
 use Rattle.coniks_proof.proofs.Lemmas.{end_of-empty, end_of-in, end_of-inner, end_of-leaf, end_of-present, length-child, length-halves, siblings-empty, siblings-inner, siblings-leaf}
 use Rattle.coniks_proof.specs.declared.values.Digest.{Digest}
-use Rattle.coniks_tree.specs.Table.{Numbered, registered_at, registered_by, Shows, shows_empty, shows_leaf, shows_inner, hash_of_node, entry_of_record, Table}
+use Rattle.coniks_proof.specs.Tree.{node}
+use Rattle.coniks_tree.specs.Table.{Numbered, registered_at, registered_by, Shows, shows_empty, shows_leaf, shows_inner, entry_of_record, Table}
 use Rattle.coniks_tree.specs.Paths.{Finds, IsAt, IsStep, PathStopsAt}
-use Rattle.coniks_tree.proofs.TableLemmas.{Shows-hash}
-use Rattle.coniks_tree.specs.declared.table.Node.{Node}
 use Rattle.coniks_tree.specs.declared.table.Node.TheVariants.{Leaf, Inner}
 use Rattle.coniks_tree.specs.declared.table.Record.{Record}
 use Rattle.coniks_tree.specs.declared.table.RecordNo.{RecordNo}
 use Rattle.coniks_tree.specs.declared.path.Stop.{Stop}
 use Rattle.coniks_tree.specs.declared.path.Stop.TheVariants.{Empty, Other, Here}
 
-pub step_left : (by : Hashing) (t : Table) (b : Bool) (p : List Bool) (es : List Numbered) (n l r : ℕ) (d x : Digest) (v : Node)
-    → b ≡ false → slice_get t.nodes n ≡ Some (Inner l r d) → slice_get t.nodes r ≡ Some v → x ≡ hash_of_node v → Shows by t n p es → IsStep by t b p es l x
-step_left by t b _ _ _ l r d x v b-is at beside x-is (shows_empty n p es d' at' none is) = cc
-step_left by t b _ _ _ l r d x v b-is at beside x-is (shows_leaf n p es d' place rec at' stored one is) = cc
-step_left by t b _ _ _ l r d x v b-is at beside x-is (shows_inner n p es d' l' r' at' short many is left right) =
+pub step_left : (by : Hashing) (t : Table) (b : Bool) (p : List Bool) (es : List Numbered) (n l r : ℕ) (d x : Digest)
+    → b ≡ false → slice_get t.nodes n ≡ Some (Inner l r d)
+    → ((q : List Bool) (fs : List Numbered) → Shows by t r q fs → x.0 ≡ node by q fs) → Shows by t n p es → IsStep by t b p es l x
+step_left by t b _ _ _ l r d x b-is at beside (shows_empty n p es d' at' none is) = cc
+step_left by t b _ _ _ l r d x b-is at beside (shows_leaf n p es d' place rec at' stored one is) = cc
+step_left by t b _ _ _ l r d x b-is at beside (shows_inner n p es d' l' r' at' short many is left right) =
     let l-is : l' ≡ l = cc in
     let r-is : r' ≡ r = cc in
     subst (λ c. IsStep by t c p es l x) (sym b-is) (record {
       many = many;
       short = short;
-      beside = ap (λ w. w.0) x-is ∙ Shows-hash by t r (child p true) _ v (subst (λ k. Shows by t k (child p true) (half true (length p) es)) r-is right) beside;
+      beside = beside (child p true) (half true (length p) es) (subst (λ k. Shows by t k (child p true) (half true (length p) es)) r-is right);
       shows = subst (λ k. Shows by t k (child p false) (half false (length p) es)) l-is left;
     })
 

@@ -1,4 +1,5 @@
 pub mod Table
+pub mod Packed
 pub mod Parts
 pub mod Counts
 pub mod Paths

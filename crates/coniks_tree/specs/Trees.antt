@@ -4,7 +4,7 @@ use Rattle.coniks_tree.specs.Table.{Table, table}
 use Rattle.coniks_tree.specs.declared.table.Node.{Node}
 use Rattle.coniks_tree.specs.declared.table.Record.{Record}
 
--- the nodes and records of a tree, and how many of each its memory holds
+-- the nodes and records of a tree, and how many of each there is room for
 pub record TreeView : Type 0 where
   pub nodes : List Node
   pub records : List Record

@@ -1,17 +1,19 @@
 //! Makes nodes at the end of the table from a part.
 
-ghost use Rattle.std.specs.Prelude.{◌≡◌, ◌++◌, ◌∷◌, [], ◌<◌, ◌≤◌, ◌+◌, ◌*◌, ◌-◌, List, length, slice_get, vec_capacity, Bool};
+ghost use Rattle.std.specs.Prelude.{◌≡◌, ◌++◌, ◌∷◌, [], ◌<◌, ◌≤◌, ◌+◌, ◌*◌, ◌-◌, ◌^◌, List, length, slice_get, vec_capacity, Bool};
 ghost use Rattle.coniks_proof.specs.Hashing.{Hashing};
 ghost use Rattle.coniks_proof.specs.Tree.{node};
 ghost use Rattle.coniks_tree.specs.Table.{Extends, IsLinked, NodeFits, Numbered, Shows, table};
+ghost use Rattle.coniks_tree.specs.Packed.{greatest_child};
 ghost use Rattle.coniks_tree.specs.Parts.{Stands, Fits, Placed, node_count};
 
+use crate::packed::PackedNode;
 use crate::part::{Part, Subtree};
 use crate::table::{Node, Record};
 use coniks_proof::Digest;
 
 /// Appends a node, for which there is room.
-fn put(nodes: &mut Vec<Node>, node: Node)
+fn put(nodes: &mut Vec<PackedNode>, node: PackedNode)
     requires { length nodes.old.items < vec_capacity nodes.old }
     ensures items { nodes.new.items ≡ nodes.old.items ++ node ∷ [] }
     ensures len { length nodes.new.items ≡ length nodes.old.items + 1 }
@@ -21,8 +23,9 @@ fn put(nodes: &mut Vec<Node>, node: Node)
 }
 
 /// Appends a node, for which there is room, and returns its number.
-pub(crate) fn push_node(nodes: &mut Vec<Node>, node: Node) -> usize
-    requires { length nodes.old.items < vec_capacity nodes.old }
+pub(crate) fn push_node(nodes: &mut Vec<PackedNode>, node: Node) -> usize
+    requires room { length nodes.old.items < vec_capacity nodes.old }
+    requires child { greatest_child node < 2 ^ 48 }
     ensures number { result ≡ length nodes.old.items }
     ensures len { length nodes.new.items ≡ length nodes.old.items + 1 }
     ensures room { vec_capacity nodes.old ≤ vec_capacity nodes.new }
@@ -32,16 +35,17 @@ pub(crate) fn push_node(nodes: &mut Vec<Node>, node: Node) -> usize
         → IsLinked (table nodes.old.items records) → IsLinked (table nodes.new.items records) }
 {
     let number = nodes.len();
-    put(nodes, node);
+    put(nodes, PackedNode::new(node));
     number
 }
 
 /// Appends a part's nodes, and returns the number of the node that stands for the part.
 ///
 /// The part is of a prefix of `level` bits and has this hash. Computes no hash.
-pub(crate) fn append(nodes: &mut Vec<Node>, level: usize, hash: &Digest, part: &Part) -> usize
+pub(crate) fn append(nodes: &mut Vec<PackedNode>, level: usize, hash: &Digest, part: &Part) -> usize
     requires fits { Fits (length nodes.old.items) level part.now }
     requires room { length nodes.old.items + node_count part.now ≤ vec_capacity nodes.old }
+    requires few { length nodes.old.items + node_count part.now ≤ 2 ^ 48 }
     ensures len { length nodes.new.items ≡ length nodes.old.items + node_count part.now }
     ensures room { vec_capacity nodes.old ≤ vec_capacity nodes.new }
     ensures known { result < length nodes.new.items }

@@ -95,7 +95,7 @@ fn side_hash(tree: &Tree, part: &Part, hashes: &mut VecDeque<Digest>) -> Digest
     match part {
         Part::Nothing => first_hash(hashes),
         Part::Entry(_) => first_hash(hashes),
-        Part::Kept(root) => tree.node(root.0).hash(),
+        Part::Kept(root) => tree.node_hash(*root),
         Part::Made(made) => made.hash,
     }
 }

@@ -11,6 +11,7 @@ ghost use Rattle.coniks_tree.specs.Levels.{AllDivide, AllGrown, AllOpen, Divides
 use crate::growth::{only_change, sides};
 use crate::halving::opened;
 use crate::joining::{Pair, join_all};
+use crate::packed::PackedNode;
 use crate::part::{Change, Part, join_parts};
 use crate::table::Node;
 use crate::tree::{Base, Tree};
@@ -85,27 +86,33 @@ fn divide<'a>(
 }
 
 /// Returns whether the node of this number is an interior node.
-fn is_inner(nodes: &[Node], number: usize) -> bool
+fn is_inner(nodes: &[PackedNode], number: usize) -> bool
     ensures { result ≡ is_interior (slice_get nodes.now number) }
 {
-    matches!(nodes.get(number), Some(Node::Inner(_, _, _)))
+    let Some(node) = nodes.get(number) else {
+        return false;
+    };
+    matches!(node.node(), Node::Inner(_, _, _))
 }
 
 /// Returns the number of interior nodes among the two nodes below a part.
-fn inner_below(nodes: &[Node], part: &Part) -> usize
+fn inner_below(nodes: &[PackedNode], part: &Part) -> usize
     ensures { result ≡ interior_below nodes.now part.now }
 {
     let Part::Kept(root) = part else { return 0 };
-    let Some(Node::Inner(left, right, _)) = nodes.get(root.0) else {
+    let Some(node) = nodes.get(root.0) else {
         return 0;
     };
-    is_inner(nodes, *left) as usize + is_inner(nodes, *right) as usize
+    let Node::Inner(left, right, _) = node.node() else {
+        return 0;
+    };
+    is_inner(nodes, left) as usize + is_inner(nodes, right) as usize
 }
 
 /// Returns the number of interior nodes among the nodes below parts.
 ///
 /// It reads them one after another, and nothing else in between.
-fn all_inner_below(nodes: &[Node], growing: &VecDeque<Growing>) -> usize
+fn all_inner_below(nodes: &[PackedNode], growing: &VecDeque<Growing>) -> usize
     ensures { result ≡ min (all_interior_below nodes.now growing.now.items) (2 ^ 64 - 1) }
 {
     let mut count = 0;

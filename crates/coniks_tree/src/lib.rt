@@ -36,6 +36,7 @@ mod halving;
 mod joining;
 pub mod laws;
 mod levels;
+pub mod packed;
 mod page;
 pub mod part;
 mod path;

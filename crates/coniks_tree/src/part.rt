@@ -81,7 +81,7 @@ pub(crate) fn hash_at<H: Hash32>(
     match part {
         Part::Nothing => empty_hash(h, nonce, prefix),
         Part::Entry(change) => leaf_hash(h, nonce, &change.index, prefix.len(), &change.commitment),
-        Part::Kept(root) => tree.node(root.0).hash(),
+        Part::Kept(root) => tree.node_hash(*root),
         Part::Made(made) => made.hash,
     }
 }

@@ -47,9 +47,9 @@ pub(crate) fn step(
         Node::Leaf(_, _) => None,
         Node::Inner(left, right, _) => {
             if bit(index, level) {
-                Some((right, tree.node(left).hash()))
+                Some((right, tree.node_hash(Root(left))))
             } else {
-                Some((left, tree.node(right).hash()))
+                Some((left, tree.node_hash(Root(right))))
             }
         }
     }

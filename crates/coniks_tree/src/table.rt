@@ -1,7 +1,6 @@
 //! The nodes and records of a tree, which are numbered.
 
 ghost use Rattle.std.specs.Prelude.{◌≡◌, ◌<◌};
-ghost use Rattle.coniks_tree.specs.Table.{hash_of_node};
 
 use coniks_proof::{Binding, Digest, Index, Opening};
 
@@ -25,7 +24,7 @@ pub struct Record {
     pub binding: Binding,
 }
 
-/// A node with its hash (CONIKS, section 3.1), in at most 56 bytes.
+/// A node with its hash (CONIKS, section 3.1).
 ///
 /// A leaf has its record's number. An interior node has its children's numbers, the left one first, which are smaller
 /// than its own.
@@ -34,17 +33,4 @@ pub enum Node {
     Empty(Digest),
     Leaf(RecordNo, Digest),
     Inner(usize, usize, Digest),
-}
-
-impl Node {
-    /// Returns the node's hash.
-    pub(crate) fn hash(&self) -> Digest
-        ensures { result ≡ hash_of_node self.now }
-    {
-        match self {
-            Node::Empty(hash) => *hash,
-            Node::Leaf(_, hash) => *hash,
-            Node::Inner(_, _, hash) => *hash,
-        }
-    }
 }

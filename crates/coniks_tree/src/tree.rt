@@ -19,6 +19,7 @@ use crate::attach::append;
 use crate::entries::{changes_at, list_places};
 use crate::growth::grow_part;
 use crate::halving::side;
+use crate::packed::{MAX_NODES, PackedNode};
 use crate::page::{list_beyond, list_first};
 use crate::part::{Change, Part, hash_at, join_parts, new_nodes};
 use crate::path::{Stop, last_number, path_from, stop_at};
@@ -33,16 +34,16 @@ use std::marker::Model;
 /// postconditions are for a part that stands for a map, or a root that shows one. With another tree, hash or nonce a call
 /// is memory-safe and terminates, but returns something else.
 ///
-/// Contracts see a tree as its nodes, its records, and how many of each its memory holds.
+/// Contracts see a tree as its nodes, its records, and how many of each there is room for.
 #[derive(Drop)]
 pub struct Tree {
-    pub(crate) nodes: Vec<Node>,
+    pub(crate) nodes: Vec<PackedNode>,
     records: Vec<Record>,
     alloc: Global,
 }
 
 impl Model for Tree {
-    ghost use Rattle.std.specs.Prelude.{vec_capacity};
+    ghost use Rattle.std.specs.Prelude.{◌^◌, min, vec_capacity};
     ghost use Rattle.coniks_tree.specs.Table.{IsLinked, table};
     ghost use Rattle.coniks_tree.specs.Trees.{TreeView};
 
@@ -51,7 +52,7 @@ impl Model for Tree {
     ghost view = { λ t. record {
       nodes = t.nodes.items;
       records = t.records.items;
-      node_room = vec_capacity t.nodes;
+      node_room = min (vec_capacity t.nodes) (2 ^ 48);
       record_room = vec_capacity t.records;
     } };
 
@@ -113,7 +114,7 @@ impl Tree {
         ensures at { slice_get self.now.nodes number ≡ Some result }
         ensures linked { NodeFits number self.now.records result }
     {
-        self.nodes[number]
+        self.nodes[number].node()
     }
 
     /// Returns the hash of a node, which is stored in the node. Computes no hash.
@@ -122,7 +123,7 @@ impl Tree {
         ensures { (by : Hashing) (prefix : List Bool) (entries : List Numbered)
             → Shows by (table_of self.now) root.0 prefix entries → result.0 ≡ node by prefix entries }
     {
-        self.node(root.0).hash()
+        self.nodes[root.0].hash()
     }
 
     /// Returns the number of the record at an index, or `None` if the root shows no entry there.
@@ -334,7 +335,7 @@ impl Tree {
     ///
     /// # Errors
     ///
-    /// `OutOfMemory` if an allocation fails.
+    /// `OutOfMemory` if an allocation fails, or if the tree would have more than 2^48 nodes.
     pub fn reserve(&mut self, part: &Part, records: usize) -> Result<(), OutOfMemory>
         requires { Fits (length self.old.nodes) 0 part.now }
         ensures nodes { self.new.nodes ≡ self.old.nodes }
@@ -343,7 +344,7 @@ impl Tree {
         ensures room_records { OnOk result (length self.new.records + records ≤ self.new.record_room) }
     {
         let count = new_nodes(part);
-        if count == usize::MAX {
+        if self.nodes.len().saturating_add(count) > MAX_NODES {
             return Err(OutOfMemory);
         }
         self.nodes.try_reserve(count)?;
