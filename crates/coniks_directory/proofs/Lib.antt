@@ -23,6 +23,7 @@ mod PrepareLemmas
 mod StepLemmas
 mod AgreementLemmas
 mod RunLemmas
+mod NameLemmas
 mod SuppliedLemmas
 mod SuppliedBatchLemmas
 mod RestoreLemmas

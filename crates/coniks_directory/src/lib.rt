@@ -75,6 +75,7 @@ mod judge;
 pub mod laws;
 mod lengths;
 pub mod lookup;
+mod name_key;
 mod pending;
 mod preparing;
 pub mod restoring;

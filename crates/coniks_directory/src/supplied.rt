@@ -4,6 +4,7 @@ ghost use Rattle.std.specs.Prelude.{◌≡◌, IfSome, None, OnErr, OnOk, [], fa
 ghost use Rattle.coniks_directory.specs.Supplied.{IsSupplied, is_supplied, supplied_index};
 ghost use Rattle.coniks_directory.specs.SuppliedBatches.{put_index};
 
+use crate::name_key::NameKey;
 use crate::source::IndexSource;
 use coniks_proof::{Index, MAX_NAME};
 use std::alloc::{AllocError, Global};
@@ -33,7 +34,7 @@ pub trait SupplyIndex: IndexSource {
 #[derive(Drop)]
 pub struct SuppliedIndices {
     alloc: Global,
-    indices: BTreeMap<Vec<u8>, Index>,
+    indices: BTreeMap<NameKey, Index>,
 }
 
 impl Model for SuppliedIndices {
@@ -42,7 +43,7 @@ impl Model for SuppliedIndices {
 
     ghost Value = { List Supplied };
 
-    ghost view = { λ t. map (λ e. (e.0.items, e.1.0)) t.indices.entries };
+    ghost view = { λ t. map (λ e. (e.0, e.1.0)) t.indices.entries };
 }
 
 impl SuppliedIndices {
@@ -128,7 +129,7 @@ impl SupplyIndex for SuppliedIndices {
         ensures unchanged { OnErr result (self.new ≡ self.old) }
     {
         let name = Vec::from_slice(self.alloc, name)?;
-        self.indices.insert(name, index)?;
+        self.indices.insert(NameKey::new(name), index)?;
         Ok(())
     }
 }

@@ -7,4 +7,4 @@ pub returns : goal.returns
 returns c =
     let name = c.args.name.now in
     rw (← c.self.view_is)
-    (c.contains_key.ensures ∙ supplied_has (λ k. k.items) (λ k. is_eq (slice_cmp nat_cmp name k.items)) name (λ k. is_eq-slice_cmp name k.items) c.self.inside.indices.entries)
+    (c.contains_key.ensures ∙ supplied_has (λ k. k) (λ k. is_eq (slice_cmp nat_cmp name k)) name (λ k. is_eq-slice_cmp name k) c.self.inside.indices.entries)

@@ -7,11 +7,11 @@ pub returns-in-Some : goal.returns-in-Some
 returns-in-Some c =
     let name = c.args.name.now in
     rw (← c.self.view_is)
-    (sym (supplied_some (λ k. k.items) (λ k. is_eq (slice_cmp nat_cmp name k.items)) name
-    (λ k. is_eq-slice_cmp name k.items) c.self.inside.indices.entries c.in-Some.index.now (sym c.in-Some.ensures.value)))
+    (sym (supplied_some (λ k. k) (λ k. is_eq (slice_cmp nat_cmp name k)) name
+    (λ k. is_eq-slice_cmp name k) c.self.inside.indices.entries c.in-Some.index.now (sym c.in-Some.ensures.value)))
 
 pub returns-in-None : goal.returns-in-None
 returns-in-None c =
     let name = c.args.name.now in
     rw (← c.self.view_is)
-    (sym (supplied_none (λ k. k.items) (λ k. is_eq (slice_cmp nat_cmp name k.items)) name (λ k. is_eq-slice_cmp name k.items) c.self.inside.indices.entries (sym c.in-None.ensures.value)))
+    (sym (supplied_none (λ k. k) (λ k. is_eq (slice_cmp nat_cmp name k)) name (λ k. is_eq-slice_cmp name k) c.self.inside.indices.entries (sym c.in-None.ensures.value)))

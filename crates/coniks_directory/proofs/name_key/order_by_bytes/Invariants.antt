@@ -1,0 +1,8 @@
+use Rattle.std.proofs.Common.{◌≡◌, drop}
+use Rattle.std.specs.Cmp.Lexicographic.{slice_cmp}
+use Rattle.std.specs.Ordering.{nat_cmp}
+use Rattle.coniks_directory.proofs.name_key.order_by_bytes.Given as goal
+
+-- what is left compares as the whole
+abbrev pub invariant-loop-at : goal.invariant-loop-at
+invariant-loop-at l = slice_cmp nat_cmp (drop l.at l.a) (drop l.at l.b) ≡ slice_cmp nat_cmp l.a l.b
