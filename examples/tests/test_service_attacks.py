@@ -34,7 +34,7 @@ MIB = 1 << 20
 GET = b"GET /v1/policy HTTP/1.1\r\nHost: a\r\n"
 POST = b"POST /v1/operations HTTP/1.1\r\nHost: a\r\nContent-Type: application/json\r\n"
 # What clients send that never send a whole head: nothing, half of one, a byte, and a second one after a whole one.
-HALVES = [[], [GET], [b"G"], [GET + b"\r\n", b"GET"]]
+HALVES: list[list[bytes]] = [[], [GET], [b"G"], [GET + b"\r\n", b"GET"]]
 
 
 def is_served(service: Running) -> bool:
