@@ -11,7 +11,7 @@ use std::marker::Model;
 
 /// A name as the key of a map, in the order of its bytes.
 ///
-/// `Vec<u8>` has the same order, but compares one byte after another, which takes most of the time of a search.
+/// `Vec<u8>` has the same order, but compares short names one byte after another.
 #[derive(Drop)]
 pub(crate) struct NameKey {
     bytes: Vec<u8>,
