@@ -15,7 +15,7 @@ from coniks.provider import Provider, ProviderError, RestartNeeded
 from holding import LOG, Holder, error_of
 from problems import Problem
 
-# A batch of the program has at most so many operations, and no more are collected.
+# The most operations of a batch. No more are collected.
 MOST = 4096
 # The seconds until the clock is read again, and a commit that failed is tried again.
 _PAUSE = 0.3

@@ -19,7 +19,7 @@ LONGEST = 30
 _LINGER = 1.0
 # The requests that may wait for the reply to the one before.
 _AHEAD = 2
-# Requests are counted for so many seconds.
+# The seconds over which requests are counted.
 _WINDOW = 4
 
 
@@ -29,7 +29,7 @@ class Bounds:
 
     A connection has `patience` from its start, and from each reply, until it has sent the head of the next request and taken the
     reply. `body` is the longest body. A request has at most twice as many bytes, with its head and the borders of its chunks. Anyone
-    may look names up at so many `recent` epochs, and their owners at all. Each address may make `rate` requests a second. Those of a
+    may look names up at the latest `recent` epochs, and their owners at all. Each address may make `rate` requests a second. Those of a
     proxy count for the last address that it adds to `X-Forwarded-For`.
     """
 

@@ -11,7 +11,7 @@ from coniks.notes import Auditor, BadNote, Note, quorum, read_note
 from holding import LOG, Holder, error_of, link_of
 
 _PAUSE, _LONGEST = 3.0, 1 << 16
-# Of so many epochs notes are kept, so that an auditor that is late counts with the others.
+# The latest epochs whose notes are kept, so that an auditor that is late counts with the others.
 _EPOCHS = 8
 
 

@@ -26,7 +26,7 @@ pytest.importorskip("nacl.signing")
 from facts import Facts
 from services import TOKEN, Running, named, received_once, sent, until
 
-# The service of these tests takes so many connections. It ends one that has sent no whole head in 4 seconds.
+# The most connections of the service in these tests, and the seconds in which a connection must send a whole head.
 CONNECTIONS, PATIENCE = 300, "4"
 # How many random requests are under way at once.
 SENDERS = 32

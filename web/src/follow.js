@@ -20,7 +20,7 @@ const part = (id) => document.getElementById(id);
 let follower;
 
 /**
- * What the service replies. It follows no redirect, and takes at most so many bytes.
+ * What the service replies. It follows no redirect, and takes at most `most` bytes.
  * @param {string} target @param {number} most
  * @returns {Promise<import("./following.js").Answer>}
  */

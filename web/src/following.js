@@ -98,7 +98,7 @@ export class Follower {
 
   /**
    * @param {import("./coniks.js").Coniks} coniks @param {import("./keeping.js").Store} store
-   * @param {(target: string, most: number) => Promise<Answer>} ask  what the service replies, with at most so many bytes
+   * @param {(target: string, most: number) => Promise<Answer>} ask  what the service replies, in at most `most` bytes
    * @param {() => number} clock
    */
   constructor(coniks, store, ask, clock = () => Date.now() / 1000) {

@@ -94,7 +94,7 @@ export async function cosignedAt({ text, lines }, { name, id, isSigned }) {
   return latest;
 }
 
-/** How many of so many auditors must agree, so that two such groups share one. @param {number} auditors @returns {number} */
+/** Returns the size of a quorum of the auditors: two quorums share an auditor. @param {number} auditors @returns {number} */
 export function quorum(auditors) {
   return Math.floor(auditors / 2) + 1;
 }

@@ -34,7 +34,7 @@ class Answer:
 
 
 def answered(url: str, most: int, body: Optional[bytes] = None, headers: Mapping[str, str] = {}) -> Answer:
-    """Returns the reply to a request, whose body has at most so many bytes. A request with a body is a POST. It follows no redirect,
+    """Returns the reply to a request. The reply's body has at most `most` bytes. A request with a body is a POST. It follows no redirect,
     and a server that sends a byte now and then doesn't keep it waiting. Raises `Unusable`."""
     timer = None
     try:

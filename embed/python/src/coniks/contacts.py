@@ -38,9 +38,9 @@ from .vouching import Change, Place, Record, convicts, first, following, judged
 
 __all__ = ["main"]
 
-# The most bytes of a reply, and of a history of so many epochs.
+# The most bytes of a reply and of a history, and the most epochs of a history.
 _REPLY, _HISTORY, _SPAN = 1 << 15, 1 << 24, 1000
-# How often a reply is asked for while epochs pass, the most bytes of a key, and for how many seconds a head counts at least.
+# The most requests for one reply while epochs pass, the most bytes of a key, and the least seconds for which a head counts.
 _TRIES, _LONGEST_KEY, _RECENT = 5, 16384 - 144, 600
 _ALARM, _UNVERIFIED, _ABSENT = 1, 3, 4
 _COMMANDS = {

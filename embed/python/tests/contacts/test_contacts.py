@@ -655,7 +655,7 @@ def test_quorum(tmp_path: Path, capsys: pytest.CaptureFixture[str], directory: D
 def test_lagging_auditors(
     tmp_path: Path, capsys: pytest.CaptureFixture[str], directory: Directory, auditors: list[Auditing]
 ) -> None:
-    """The quorum's epoch is the latest that so many have. What they have makes the state smaller, and nothing is lost."""
+    """The quorum's epoch is the latest that a quorum of the auditors has. Entries up to it leave the state, and nothing is lost."""
     it = Person(tmp_path, capsys)
     for a in auditors[:2]:
         a.sign(1)
