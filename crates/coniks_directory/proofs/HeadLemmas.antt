@@ -3,6 +3,7 @@ use Rattle.std.proofs.Common.{◌≡◌, ℕ, suc, ◌+◌, ◌≤◌, get_or, a
 use Rattle.coniks_proof.specs.Octets.{Octets}
 use Rattle.coniks_directory.proofs.Words.{AreRising, AuditorState, Begins, Body, Head, IsChainOf, Shown, before_at, epoch_before, head_at, heads_of, last_of, link_before}
 use Rattle.coniks_directory.proofs.Words.{map-map, numbers_of, same_Some, zeros}
+use Rattle.coniks_chain.specs.Entries.{link_preimage}
 use Rattle.coniks_chain.specs.declared.entry.Entry.{Entry}
 use Rattle.coniks_directory.proofs.NumberLemmas.{rising-sorted}
 
@@ -54,3 +55,10 @@ pub last_links : (hash : Octets → Octets) (before : Option AuditorState) (chai
 last_links hash before [] begun = sym (ap link_before (begun refl))
 last_links hash before (e ∷ []) begun = refl
 last_links hash before (e ∷ f ∷ chain) begun = last_links hash before (f ∷ chain) (λ none. absurd (let never = none in cc))
+
+-- an entry that follows this chain contains the link of its last entry
+pub link_of_last : (hash : Octets → Octets) (before : Option AuditorState) (chain : List Entry) (entry : Entry)
+    → link_before (before_at hash before (chain ++ entry ∷ []) (length (chain ++ entry ∷ []))) ≡ hash (link_preimage entry)
+link_of_last hash before [] entry = refl
+link_of_last hash before (e ∷ []) entry = refl
+link_of_last hash before (e ∷ f ∷ chain) entry = link_of_last hash before (f ∷ chain) entry

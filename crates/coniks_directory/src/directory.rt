@@ -1,6 +1,6 @@
 //! The directory.
 
-ghost use Rattle.std.specs.Prelude.{◌≡◌, ◌≤◌, None, Some, IfErr, IfOk, OnErr, OnOk, length, option_map};
+ghost use Rattle.std.specs.Prelude.{◌≡◌, ◌≤◌, ◌++◌, ◌∷◌, [], List, None, Some, IfErr, IfOk, OnErr, OnOk, length, option_map};
 ghost use Rattle.coniks_proof.specs.Octets.{Octets};
 ghost use Rattle.coniks_proof.specs.Registry.{has_name};
 ghost use Rattle.coniks_directory.specs.Batches.{IsAccepted, IsBatchFault, operations};
@@ -57,6 +57,7 @@ impl<H: Hash32, X: IndexSource> Model for Directory<H, X> {
 
 impl<H: Hash32, X: IndexSource> Directory<H, X> {
     ghost use Rattle.coniks_chain.specs.Chain.{before_at, epoch_before, link_before};
+    ghost use Rattle.coniks_chain.specs.Entries.{link_preimage};
     ghost use Rattle.coniks_directory.specs.History.{latest_epoch};
     ghost use Rattle.coniks_directory.specs.State.{opened};
 
@@ -105,7 +106,8 @@ impl<H: Hash32, X: IndexSource> Directory<H, X> {
     /// The publisher has published exactly the heads of the directory's chain.
     pub fn latest_link(&self, publisher: &Publisher) -> Digest
         requires { publisher.now.heads ≡ heads H.digest_of self.now }
-        ensures { result.0 ≡ link_before (before_at (H.digest_of self.now.hash) self.now.state.before self.now.state.chain (length self.now.state.chain)) }
+        ensures link { result.0 ≡ link_before (before_at (H.digest_of self.now.hash) self.now.state.before self.now.state.chain (length self.now.state.chain)) }
+        ensures of_last { (earlier : List Entry) (entry : Entry) → self.now.state.chain ≡ earlier ++ entry ∷ [] → result.0 ≡ H.digest_of self.now.hash (link_preimage entry) }
     {
         // Read for the contract alone.
         let _ = &self.held;
