@@ -11,7 +11,7 @@ ghost use Rattle.coniks_provider.specs.Turns.{bindings_with, index_of_bytes, ins
 use crate::page::page_object;
 use crate::reply::Reply;
 use crate::signature::GivenSignature;
-use coniks_chain::{Body, Signature, link};
+use coniks_chain::{Body, Signature};
 use coniks_directory::{
     BindingsFault, Directory, InstallFault, LookupAtFault, OwnedBatch, Prepared,
     SuppliedBatchFault, SuppliedIndices,
@@ -158,7 +158,7 @@ impl Service {
             Err((InstallFault::OutOfMemory, _)) => return Err(AllocError),
             Err(_) => unreachable!(),
         };
-        let link = link(&Sha256Hash, &entry);
+        let link = self.directory.latest_link(publisher);
         Ok(Reply::Installed { entry, link })
     }
 

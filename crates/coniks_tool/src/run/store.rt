@@ -1,6 +1,8 @@
 //! The directory that a script opens, the signer of its entries, and the board of its heads.
 
-ghost use Rattle.std.specs.Prelude.{◌≡◌, [], Option, None, Some, IfErr, IfOk, OnErr, OnOk, option_map};
+ghost use Rattle.std.specs.Prelude.{◌≡◌, ◌++◌, ◌∷◌, [], List, Option, None, Some, IfErr, IfOk, OnErr, OnOk, option_map};
+ghost use Rattle.coniks_proof.specs.Sha256.{sha256};
+ghost use Rattle.coniks_chain.specs.Entries.{link_preimage};
 ghost use Rattle.coniks_directory.specs.Batches.{fault_is, operations};
 ghost use Rattle.coniks_shared.specs.Boards.{BoardEnd};
 ghost use Rattle.coniks_json.specs.declared.fault.RunFault.TheVariants.{NoBoard};
@@ -16,12 +18,12 @@ use crate::demo::index::DemoIndex;
 use crate::demo::seal::DemoSeal;
 use crate::run::batch::Batch;
 use crate::run::reply::Reply;
-use coniks_chain::{Entry, link};
+use coniks_chain::Entry;
 use coniks_directory::{CommitFault, Directory, InstallFault, LookupFault};
 use coniks_json::fault::RunFault;
 use coniks_json::members::nonce_of;
 use coniks_json::refusal::{Refusal, batch_refusal};
-use coniks_proof::{Nonce, Sha256Hash};
+use coniks_proof::{Digest, Nonce, Sha256Hash};
 use coniks_shared::{Board, Publisher};
 use coniks_work::{Open, Parallelism};
 use std::alloc::{AllocError, Global};
@@ -66,6 +68,7 @@ impl Service {
         ensures table { publisher.new.table ≡ publisher.old.table }
         ensures served { IsServed publisher.new self.new }
         ensures ok { IfOk result (λ entry. Installs (opened_of self.old) (batch_of batch) entry (opened_of self.new)) }
+        ensures added { IfOk result (λ entry. self.new.directory.state.chain ≡ self.old.directory.state.chain ++ entry ∷ []) }
         ensures refused { IfErr result
             (IsRefusedBy (refusal (demo_index (opened_of self.old).key) (opened_of self.old).history batch.epoch (operations batch.ops.items))) }
         ensures unchanged { OnErr result (opened_of self.new ≡ opened_of self.old) }
@@ -84,6 +87,14 @@ impl Service {
         // Read for the contract alone.
         let _chain = self.directory.chain();
         committed
+    }
+
+    /// Returns the link of the latest entry, which the last published head has.
+    fn latest_link(&self, publisher: &Publisher) -> Digest
+        requires { IsServed publisher.now self.now }
+        ensures { (earlier : List Entry) (entry : Entry) → self.now.directory.state.chain ≡ earlier ++ entry ∷ [] → result.0 ≡ sha256 (link_preimage entry) }
+    {
+        self.directory.latest_link(publisher)
     }
 
     /// Looks a name up at an epoch.
@@ -202,12 +213,12 @@ impl Store {
             return Ok(Reply::Refused(Refusal::NotOpen));
         };
         let committed = service.commit(rt, parallelism, batch, &mut self.publisher, &self.board);
+        let link = service.latest_link(&self.publisher);
         self.opened = Some(service);
         let entry = match committed {
             Ok(entry) => entry,
             Err(fault) => return Ok(Reply::Refused(commit_refusal(fault)?)),
         };
-        let link = link(&Sha256Hash, &entry);
         Ok(Reply::Installed { entry, link })
     }
 

@@ -50,7 +50,9 @@ returns-clause-served c =
 pub returns-clause-reply : goal.returns-clause-reply
 returns-clause-reply c =
     let at = (goal.at.returns-clause-reply c).In-Ok in
-    ap (installed c.in-Ok.entry) c.link-link.ensures ∙ installed_reply c.args.self.now.directory c.install_supplied-installed.new.self
+    let p = is_pending at in
+    let added = c.in-Ok.ensures.installed.epoch p.index p.supplied in
+    ap (installed c.in-Ok.entry) (c.latest_link-link.ensures.of_last c.args.self.now.directory.state.chain c.in-Ok.entry added.chain) ∙ installed_reply c.args.self.now.directory c.install_supplied-installed.new.self
     (update at) c.in-Ok.entry c.args.signature (entry_in at) c.args.self.now.pending (pending_in at)
 
 pub returns-clause-state : goal.returns-clause-state

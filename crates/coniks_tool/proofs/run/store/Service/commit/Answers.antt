@@ -40,6 +40,9 @@ returns-clause-ok g c =
     (k.good (to_first (is_seal c.args.self.now.signer.key) c.args.self.now.directory.state s.begun s.good)) e.outcome
     (as_many c.args.publisher.now.heads c.args.self.now.directory.state.chain s.heads) c.requires.capacity s.room
 
+pub returns-clause-added : goal.returns-clause-added
+returns-clause-added g c = if_ok c.commit_owned-committed.result _ _ (λ x added. added.epoch.chain) c.commit_owned-committed.ensures.installed
+
 pub returns-clause-refused : goal.returns-clause-refused
 returns-clause-refused g c =
     let e = c.commit_owned-committed.ensures in

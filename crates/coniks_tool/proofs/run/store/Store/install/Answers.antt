@@ -32,7 +32,7 @@ pub returns-clause-reply : goal.returns-clause-reply
 returns-clause-reply g c =
     let o = opened_of c.in-Some.service in
     let same : c.args.self.now ≡ Some o = shown_open c.self.inside.opened c.in-Some.service c.args.self.now c.in-Some.ensures.value c.self.view_is in
-    ap (installed c.in-Ok.entry) c.link-link.ensures ∙ sym (ap (λ (t : ScriptTurn). t.outcome)
+    ap (installed c.in-Ok.entry) (c.latest_link-link.ensures c.in-Some.service.directory.state.chain c.in-Ok.entry c.in-Ok.ensures.added) ∙ sym (ap (λ (t : ScriptTurn). t.outcome)
     (installed_turn o (opened_of c.commit-committed.new.self) (batch_of c.args.batch) c.in-Ok.entry c.args.self.now same c.in-Ok.ensures.ok))
 
 pub returns-clause-state : goal.returns-clause-state
