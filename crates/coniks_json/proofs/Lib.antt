@@ -4,3 +4,4 @@ mod OperationsLemmas
 mod PathLemmas
 mod PrintingLemmas
 mod ProofObjectLemmas
+mod DigitLemmas

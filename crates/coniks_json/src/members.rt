@@ -1,9 +1,10 @@
 //! The members of a line of JSON.
 
-ghost use Rattle.std.specs.Prelude.{◌≡◌, IfOk, option_map};
+ghost use Rattle.std.specs.Prelude.{◌≡◌, ℕ, IfOk, option_map};
 ghost use Rattle.std.specs.Result.{result_ok};
 ghost use Rattle.serde_json.specs.View.{view, items_view};
-ghost use Rattle.hex.specs.Hex.{decode_sized};
+ghost use Rattle.hex.specs.Hex.{decode_sized, hex_digit_value, pair_value};
+ghost use Rattle.std.specs.Option.{unwrap_or};
 ghost use Rattle.coniks_directory.specs.History.{nonce_bytes};
 ghost use Rattle.coniks_json.specs.Members.{object_in, text_in, number_in, array_in, digits_in, if_there, base64_in, bytes_in};
 
@@ -87,13 +88,54 @@ pub fn digits32_if_there(object: &Value, name: &str) -> Option<Option<[u8; 32]>>
     }
 }
 
+/// Returns the value of a hexadecimal digit of either case, or 255 for another character.
+// One character in each arm makes this a table. Ranges would be jumps that depend on the digit.
+fn digit_value(digit: u8) -> u8
+    ensures { result ≡ unwrap_or (hex_digit_value digit) 255 }
+{
+    match digit {
+        b'0' => 0,
+        b'1' => 1,
+        b'2' => 2,
+        b'3' => 3,
+        b'4' => 4,
+        b'5' => 5,
+        b'6' => 6,
+        b'7' => 7,
+        b'8' => 8,
+        b'9' => 9,
+        b'A' | b'a' => 10,
+        b'B' | b'b' => 11,
+        b'C' | b'c' => 12,
+        b'D' | b'd' => 13,
+        b'E' | b'e' => 14,
+        b'F' | b'f' => 15,
+        _ => 255,
+    }
+}
+
+/// Returns the byte of two hexadecimal digits of either case.
+fn pair(high: u8, low: u8) -> Option<u8>
+    ensures { (place : ℕ) → result ≡ result_ok (pair_value high low place) }
+{
+    let (high, low) = (digit_value(high), digit_value(low));
+    if high > 15 || low > 15 {
+        return None;
+    }
+    Some(high * 16 + low)
+}
+
 /// Returns the N bytes of 2N hexadecimal digits of either case.
 pub fn bytes_of_digits<const N: usize>(digits: &str) -> Option<[u8; N]>
     ensures { result ≡ result_ok (decode_sized digits.now N) }
 {
-    let mut bytes = [0; N];
-    if hex::decode_to_slice(digits, &mut bytes).is_err() {
+    let digits = digits.as_bytes();
+    if digits.len() % 2 != 0 || digits.len() / 2 != N {
         return None;
+    }
+    let mut bytes = [0; N];
+    for i in 0..N {
+        bytes[i] = pair(digits[2 * i], digits[2 * i + 1])?;
     }
     Some(bytes)
 }
