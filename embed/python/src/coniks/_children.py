@@ -196,7 +196,7 @@ class Children:
         if self.differing:
             raise self.differing
         children, is_sent = self._sound(), not self.is_used
-        lines = line + b"\n" + (b"" if is_sent or len(self._all) == 1 else _LATEST)
+        lines = b"".join([line, b"\n", b"" if is_sent or len(self._all) == 1 else _LATEST])
         if is_sent:
             for child in children:
                 # One that fails here fails again below.

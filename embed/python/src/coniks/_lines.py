@@ -97,7 +97,7 @@ def encoded(members: Mapping[str, Any]) -> bytes:
 
 def with_member(line: bytes, member: str, value: bytes) -> bytes:
     """A line with one more member, of hexadecimal digits."""
-    return b'%s,"%s":"%s"}' % (line[:-1], member.encode(), value.hex().encode())
+    return b"".join([memoryview(line)[:-1], f',"{member}":"{value.hex()}"}}'.encode()])
 
 
 def lookup_line(name: str, index: bytes, epoch: int) -> bytes:
@@ -109,21 +109,22 @@ def install_line(signature: bytes) -> bytes:
 
 
 def prepare_line(epoch: int, operations: Iterable[Operation], nonce: Optional[bytes], index_of: Index) -> bytes:
-    listed, turn = list[str](), Turn()
+    listed, turn = bytearray(), Turn()
     for it in operations:
         if not isinstance(it, (Register, Change)):
             raise TypeError(f"an operation is Register or Change, not {type(it).__name__}")
-        listed.append(_operation(it, index_of(it.name).hex()))
+        listed += b"," * bool(listed) + _operation(it, index_of(it.name).hex())
         turn.pause()
     new_nonce = "" if nonce is None else f',"nonce":"{sized(nonce, 32, "the nonce").hex()}"'
-    return f'{{"cmd":"prepare","epoch":{_number(epoch, 64, "the epoch")}{new_nonce},"ops":[{",".join(listed)}]}}'.encode()
+    head = f'{{"cmd":"prepare","epoch":{_number(epoch, 64, "the epoch")}{new_nonce},"ops":['
+    return b"".join([head.encode(), listed, b"]}"])
 
 
-def _operation(it: Operation, index: str) -> str:
+def _operation(it: Operation, index: str) -> bytes:
     """An operation in a line. Each is encoded by itself: one call for all would keep other threads waiting until it returns."""
     kind, name = type(it).__name__.lower(), _ENCODER.encode(it.name)
     key, opening = base64.b64encode(_bytes(it.key, "a key")).decode(), sized(it.opening, 32, "an opening").hex()
-    return f'{{"op":"{kind}","name":{name},"index":"{index}","key":"{key}","opening":"{opening}"}}'
+    return f'{{"op":"{kind}","name":{name},"index":"{index}","key":"{key}","opening":"{opening}"}}'.encode()
 
 
 def members_of(line: bytes, error: type[ProviderError], what: str) -> Any:
