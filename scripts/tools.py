@@ -11,6 +11,7 @@ import os
 import shutil
 import subprocess
 import sys
+from functools import cache
 from pathlib import Path
 from typing import Callable, Optional, Sequence
 
@@ -49,22 +50,26 @@ def python_with(*modules: str) -> Optional[str]:
     return None
 
 
-def first_with(*lists: Sequence[str]) -> Optional[str]:
-    """A Python that imports the modules of the first list that one has."""
-    return next((python for modules in lists if (python := python_with(*modules))), None)
+# What Python is for: the modules that it must import, and lists of fewer modules if none imports all.
+PYTHONS: dict[str, Sequence[Sequence[str]]] = {
+    # To make environments, and to build packages in them without a registry.
+    "packages": [["ensurepip", "setuptools", "venv", "wheel"]],
+    "signatures": [["nacl.bindings", "nacl.signing"]],
+    "databases": [["psycopg", "nacl.signing"], ["psycopg"]],
+    "tests": [
+        ["pytest", "hypothesis", "psycopg", "nacl.signing", "selenium.webdriver"],
+        ["pytest", "hypothesis", "psycopg", "nacl.signing"],
+        ["pytest", "nacl.signing"],
+        ["pytest"],
+    ],
+}
 
 
-# A Python that makes environments and builds packages in them without a registry, one with PyNaCl, one with psycopg, which has
-# PyNaCl too if one has both, and one with pytest, which has as much of what the tests need as one has.
-PYTHON = python_with("ensurepip", "setuptools", "venv", "wheel")
-SIGNING_PYTHON = python_with("nacl.bindings", "nacl.signing")
-DATABASE_PYTHON = first_with(["psycopg", "nacl.signing"], ["psycopg"])
-TEST_PYTHON = first_with(
-    ["pytest", "hypothesis", "psycopg", "nacl.signing", "selenium.webdriver"],
-    ["pytest", "hypothesis", "psycopg", "nacl.signing"],
-    ["pytest", "nacl.signing"],
-    ["pytest"],
-)
+@cache
+def python_for(what: str) -> Optional[str]:
+    """The first Python that imports one of the lists of modules, or None. Each look starts a process."""
+    return next((python for modules in PYTHONS[what] if (python := python_with(*modules))), None)
+
 
 # A tool, whether it is there, its packages in Debian 12, if it has any, and what is skipped without it.
 TOOLS: dict[str, tuple[Callable[[], bool], str, str]] = {
@@ -77,16 +82,16 @@ TOOLS: dict[str, tuple[Callable[[], bool], str, str]] = {
     "cargo": (lambda: has_program("cargo"), "cargo-web", "the side in Rust"),
     "go": (lambda: has_program("go"), "golang-go", "the side in Go"),
     "edwards25519 for Go": (lambda: has_program("go") and GO_CURVE.is_dir(), "golang-filippo-edwards25519-dev", "the client in Go"),
-    "pip": (lambda: PYTHON is not None, "python3-venv python3-setuptools python3-wheel", "pip install"),
-    "PyNaCl": (lambda: SIGNING_PYTHON is not None, "python3-nacl", "signatures by Ed25519 and examples/provider"),
+    "pip": (lambda: python_for("packages") is not None, "python3-venv python3-setuptools python3-wheel", "pip install"),
+    "PyNaCl": (lambda: python_for("signatures") is not None, "python3-nacl", "signatures by Ed25519 and examples/provider"),
     "aiohttp": (lambda: python_with("aiohttp") is not None, "python3-aiohttp", "examples/service"),
     "prometheus_client": (lambda: python_with("prometheus_client") is not None, "python3-prometheus-client", "examples/service"),
     "jsonschema": (lambda: python_with("pytest", "jsonschema") is not None, "python3-jsonschema", "the members of openapi.json"),
     "systemd-analyze": (lambda: has_program("systemd-analyze"), "systemd", "the units of examples/service"),
     "nginx": (lambda: has_program("nginx") and has_program("openssl"), "nginx-light openssl", "the proxy of examples/service"),
     "PostgreSQL": (lambda: any(Path("/usr/lib/postgresql").glob("*/bin/initdb")), "postgresql", "a directory on several machines"),
-    "psycopg": (lambda: DATABASE_PYTHON is not None, "python3-psycopg", "coniks.postgres and examples/cluster"),
-    "pytest": (lambda: TEST_PYTHON is not None, "python3-pytest", "the tests in Python"),
+    "psycopg": (lambda: python_for("databases") is not None, "python3-psycopg", "coniks.postgres and examples/cluster"),
+    "pytest": (lambda: python_for("tests") is not None, "python3-pytest", "the tests in Python"),
     "hypothesis": (
         lambda: python_with("pytest", "hypothesis") is not None,
         "python3-hypothesis",

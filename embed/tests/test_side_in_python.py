@@ -26,9 +26,10 @@ def installed(python: Path, package: Path, env: dict[str, str]) -> tuple[int, st
 def venv(here: Path) -> Path:
     """An environment with the package, which pip has installed. That leaves nothing in the checkout."""
     needs("pip")
-    assert tools.PYTHON
+    maker = tools.python_for("packages")
+    assert maker
     python, before = here / "venv/bin/python3", sorted(here.glob("python/**/*"))
-    ran = run(tools.PYTHON, "-m", "venv", "--system-site-packages", here / "venv")
+    ran = run(maker, "-m", "venv", "--system-site-packages", here / "venv")
     assert ran.returncode == 0, ran.stderr.decode()
     writing = {it: value for it, value in os.environ.items() if it not in ("PYTHONDONTWRITEBYTECODE", "PYTHONPATH")}
     status, said = installed(python, here / "python", writing)
@@ -72,9 +73,10 @@ def test_metadata(venv: Path) -> None:
 def test_bare_environment(here: Path) -> None:
     """An environment without setuptools or wheel: an error that names the missing package, and no traceback."""
     needs("pip")
-    assert tools.PYTHON
+    maker = tools.python_for("packages")
+    assert maker
     python = here / "bare/bin/python3"
-    ran = run(tools.PYTHON, "-m", "venv", here / "bare")
+    ran = run(maker, "-m", "venv", here / "bare")
     assert ran.returncode == 0, ran.stderr.decode()
     for name in ["wheel", "setuptools"]:
         run(python.parent / "pip", "uninstall", "-y", name)
@@ -97,7 +99,8 @@ def test_installed_requests(venv: Path, here: Path, tmp_path: Path, requests: Se
 
 def test_types(here: Path, tmp_path: Path) -> None:
     needs("mypy", "psycopg")
-    assert tools.DATABASE_PYTHON
-    words = ["mypy", "--strict", "--python-executable", tools.DATABASE_PYTHON]
+    python = tools.python_for("databases")
+    assert python
+    words = ["mypy", "--strict", "--python-executable", python]
     ran = run(*words, here / "python/src/coniks", cwd=tmp_path, env=bare())
     assert ran.returncode == 0, ran.stdout.decode()

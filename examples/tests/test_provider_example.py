@@ -32,7 +32,7 @@ def run(*words: Union[str, Path], **more: Any) -> subprocess.CompletedProcess[st
 @pytest.fixture
 def python() -> str:
     """A Python with PyNaCl."""
-    return tools.SIGNING_PYTHON or pytest.skip("PyNaCl is missing")
+    return tools.python_for("signatures") or pytest.skip("PyNaCl is missing")
 
 
 def test_lines() -> None:

@@ -89,7 +89,7 @@ def pattern_of(text: str) -> str:
 
 
 def run(room: Path, language: str, text: str) -> subprocess.CompletedProcess[str]:
-    words = ["bash", "-c", text] if language == "sh" else [tools.SIGNING_PYTHON or sys.executable, "-c", text]
+    words = ["bash", "-c", text] if language == "sh" else [tools.python_for("signatures") or sys.executable, "-c", text]
     return subprocess.run(words, cwd=room, capture_output=True, text=True, timeout=600)
 
 

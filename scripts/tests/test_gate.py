@@ -48,10 +48,14 @@ def newer(gate: Any, monkeypatch: pytest.MonkeyPatch, here: str, compiles: set[s
     the counts."""
     ran: list[str] = []
     monkeypatch.setattr(gate, "processor", lambda: here)
-    monkeypatch.setattr(
-        gate, "compiled", lambda program, cpu, room: room / f"{program.name} {cpu}" if program.name in compiles else None
-    )
-    monkeypatch.setattr(gate, "run_cases", lambda tally, program, copied: ran.append(copied.name))
+    built: dict[str, str] = {}
+
+    def compiled(program: Path, cpu: str, room: Path) -> str:
+        built[program.name] = f"{program.name} {cpu}"
+        return "" if program.name in compiles else "FAILED"
+
+    monkeypatch.setattr(gate, "compiled", compiled)
+    monkeypatch.setattr(gate, "run_cases", lambda tally, program, copied: ran.append(built[copied.name]))
     tally = gate.Tally()
     gate.run_cases_by_newer(tally)
     return ran, tally.line()

@@ -1,0 +1,52 @@
+"""What a run of tests has passed, failed and skipped, by the end of its output."""
+
+from __future__ import annotations
+
+import re
+from dataclasses import dataclass
+
+# The last line of a script that counts, and that of `pytest --quiet` with its parts. An error is one of a fixture or of a module.
+LAST = re.compile(r"(\d+) passed, (\d+) failed(?:, (\d+) skipped)?")
+PYTEST = re.compile(r"\d+ \w+(?:, \d+ \w+)* in [\d.]+s(?: \(.*\))?")
+PART = re.compile(r"(\d+) (passed|failed|error|skipped)")
+# A line of the summary of `node --test`.
+NODE = re.compile(r"^ℹ (pass|fail|cancelled|skipped) (\d+)$", re.M)
+
+
+def say(text: str) -> None:
+    print(text, flush=True)
+
+
+def counts_of(text: str, status: int) -> list[int]:
+    """What has passed, failed and been skipped by the end of a command's output. Without counts, or with a bad status and no failure,
+    something has failed."""
+    line = (text.strip().splitlines() or [""])[-1].strip()
+    if found := LAST.fullmatch(line):
+        counts = [int(it or 0) for it in found.groups()]
+    elif PYTEST.fullmatch(line):
+        said = {word: int(count) for count, word in PART.findall(line)}
+        counts = [said.get("passed", 0), said.get("failed", 0) + said.get("error", 0), said.get("skipped", 0)]
+    else:
+        said = {word: int(count) for word, count in NODE.findall(text)}
+        counts = [said["pass"], said["fail"] + said["cancelled"], said["skipped"]] if len(said) == 4 else [0, 1, 0]
+    return [counts[0], max(counts[1], int(status != 0)), counts[2]]
+
+
+@dataclass
+class Tally:
+    """What has passed, failed and been skipped so far."""
+
+    passed: int = 0
+    failed: int = 0
+    skipped: int = 0
+
+    def add(self, passed: int, failed: int, skipped: int = 0) -> None:
+        self.passed, self.failed, self.skipped = self.passed + passed, self.failed + failed, self.skipped + skipped
+
+    def skip(self, what: str, tool: str) -> None:
+        """Counts what cannot run here, and prints what it needs."""
+        self.add(0, 0, 1)
+        say(f"skipped: {what}, which needs {tool}")
+
+    def line(self) -> str:
+        return f"{self.passed} passed, {self.failed} failed" + (f", {self.skipped} skipped" if self.skipped else "")

@@ -1,0 +1,413 @@
+"""The parts of the tests: which files each of them tests, and what runs it.
+
+`./gate quick` runs the parts of which a file changed. Each test of the repository is in a part, and each file is of a part or in
+`OTHERS` (scripts/tests/test_parts.py).
+"""
+
+from __future__ import annotations
+
+import re
+from dataclasses import dataclass
+from functools import cache
+from typing import Iterable, Sequence
+
+# What stands in a command for a program.
+KEYDIR, PROVIDER = "KEYDIR", "PROVIDER"
+
+# The tests that `./gate quick` leaves out, since they take minutes: they kill processes, or interrupt calls at each bytecode.
+SHORT = ["-m", "not interrupts and not kills"]
+
+
+@cache
+def pattern(text: str) -> re.Pattern[str]:
+    """A pattern of paths: `*` matches what is within a folder, and `**` anything."""
+    parts = {"**": ".*", "*": "[^/]*"}
+    return re.compile("".join(parts.get(it, re.escape(it)) for it in re.split(r"(\*\*|\*)", text)))
+
+
+@dataclass(frozen=True)
+class Part:
+    """A part of the tests. `of` has patterns of the files that it tests, and `tests` its files of tests, or the command that runs it.
+    With `options` pytest runs it in less time. What needs the library for C, or the module for browsers, has `library` or `module`.
+    """
+
+    name: str
+    of: Sequence[str]
+    tests: Sequence[str]
+    options: Sequence[str] = ()
+    library: bool = False
+    module: bool = False
+
+    def has(self, file: str) -> bool:
+        """Whether a file is tested by this part, or is a test of it."""
+        return file in self.tests or any(pattern(it).fullmatch(file) for it in self.of)
+
+    def is_pytest(self) -> bool:
+        return self.tests[0].rpartition("/")[2].startswith("test_")
+
+    def is_over_programs(self) -> bool:
+        """Whether a command takes a program, or starts one by its launcher."""
+        return not self.is_pytest() and ("examples" in self.tests[0] or any(it in (KEYDIR, PROVIDER) for it in self.tests))
+
+    def command(self) -> list[str]:
+        """What `./gate quick` runs, at the top of the repository."""
+        if self.is_pytest():
+            return ["scripts/pytest", "--quiet", "-rs", *self.tests, *self.options]
+        if self.tests[0].endswith(".mjs"):
+            return ["node", "--test", "--test-reporter=spec", *self.tests]
+        return [*self.tests]
+
+    def whole(self) -> str:
+        """The command that runs the part with all that `options` leave out, if they leave something out."""
+        return " ".join(["scripts/pytest", *self.tests]) if self.options else ""
+
+
+def package(*names: str) -> list[str]:
+    """Modules of the package in Python."""
+    return [f"embed/python/src/coniks/{it}.py" for it in names]
+
+
+def tests(folder: str, *names: str) -> list[str]:
+    """Files of a folder of its tests."""
+    return [f"embed/python/tests/{folder}/{it}.py" for it in names]
+
+
+# What the tests of providers, and those of clusters, share.
+OF_PROVIDERS = (
+    ["embed/python/tests/conftest.py"]
+    + tests("provider", "conftest", "stand_ins", "raising", "memory_log", "fake")
+    + package("provider", "faults")
+)
+OF_CLUSTERS = (
+    tests("cluster", "conftest", "clusters", "log_calls") + package("_session", "_tables") + ["examples/cluster/database.py"]
+)
+# What the clients of all languages are compared with, and what compares them.
+OF_CLIENTS = [
+    "cases/client/*",
+    "cases/second/client*",
+    "cases/second/replies.py",
+    "cases/second/curve.py",
+    "embed/tests/client_sides.py",
+]
+# What the packages for other languages are compared with.
+OF_SIDES = ["include/coniks.h", "embed/texts.json", "embed/sample", "embed/proof_bytes.py"]
+OF_SIDES += [f"embed/tests/{it}.py" for it in ("conftest", "messages", "model", "running", "samples", "sides")]
+
+PYTHON = [
+    Part(
+        "the guard",
+        [*package("guard", "_files"), *tests("provider", "conftest", "guard_ends", "bodies", "interrupts", "kills")],
+        tests("provider", "test_guards", "test_guard_ends"),
+        SHORT,
+    ),
+    Part(
+        "the guard in PostgreSQL",
+        [*package("guard", "_postgres_guard"), *OF_CLUSTERS],
+        tests("cluster", "test_row_guards"),
+        SHORT,
+    ),
+    Part(
+        "the log",
+        [*package("log", "_files", "_lines"), *OF_PROVIDERS, "embed/python/tests/provider/first_format.jsonl"],
+        tests("provider", "test_formats", "test_mistakes"),
+    ),
+    Part(
+        "what a provider does",
+        [*package("_host", "_engine", "_directory", "_lines", "_threads", "log"), *OF_PROVIDERS],
+        tests("provider", "test_units", "test_records"),
+    ),
+    Part(
+        "policies and clocks",
+        [*package("policy", "_host", "provider"), *tests("provider", "worked_examples")],
+        tests("provider", "test_policies", "test_clocks"),
+    ),
+    Part(
+        "children",
+        [*package("_children", "_host", "_engine", "_threads"), *OF_PROVIDERS, *tests("provider", "lying", "obeying")],
+        tests("provider", "test_children"),
+    ),
+    Part(
+        "one chain",
+        [*package("_directory", "_host", "_engine", "guard"), *OF_PROVIDERS, *tests("provider", "one_chain")],
+        tests("provider", "test_one_chain"),
+    ),
+    Part(
+        "steps of a commit",
+        [*package("_host", "_directory", "log"), *OF_PROVIDERS, *tests("provider", "steps")],
+        tests("provider", "test_steps"),
+    ),
+    Part(
+        "honest runs",
+        [*package("_host", "_directory", "guard", "log", "replica"), *OF_PROVIDERS],
+        tests("provider", "test_honest"),
+        ["--honest", "20"],
+    ),
+    Part(
+        "snapshots",
+        [
+            *package("_snapshot_file", "_snapshot_lines", "_restoring", "_engine", "log"),
+            *OF_PROVIDERS,
+            *tests("provider", "snapshots"),
+        ],
+        tests("provider", "test_snapshots", "test_snapshot_files"),
+    ),
+    Part(
+        "kills of a provider",
+        [*package("_host", "_children", "_files", "log"), *tests("provider", "kills", "stand_ins")],
+        tests("provider", "test_kills"),
+        ["--kills", "2"],
+    ),
+    Part(
+        "interrupts of a provider",
+        tests("provider", "interrupts"),
+        tests("provider", "test_interrupts"),
+    ),
+    Part("the log in PostgreSQL", [*package("postgres"), *OF_CLUSTERS], tests("cluster", "test_logs", "test_log_refusals")),
+    Part("ends of its calls", [*package("postgres"), *OF_CLUSTERS], tests("cluster", "test_log_ends"), SHORT),
+    Part("replicas", [*package("replica", "postgres", "_host", "_engine"), *OF_CLUSTERS], tests("cluster", "test_replicas")),
+    Part(
+        "snapshots of a cluster",
+        [*package("_postgres_snapshot", "_restoring", "replica", "postgres"), *OF_CLUSTERS],
+        tests("cluster", "test_shared_snapshots"),
+    ),
+    Part("mistakes in a cluster", [*package("replica", "postgres"), *OF_CLUSTERS], tests("cluster", "test_cluster_mistakes")),
+    Part(
+        "faults of a cluster",
+        [*package("replica", "postgres"), *OF_CLUSTERS, *tests("cluster", "cluster_faults"), "examples/cluster/node.py"],
+        tests("cluster", "test_cluster_faults"),
+        ["--faults", "1"],
+    ),
+    Part("examples/cluster", ["examples/cluster/*", *package("replica", "postgres")], tests("cluster", "test_example")),
+    Part(
+        "the client in Python",
+        [*package("client", "_messages", "_replies", "_watch", "_ecvrf", "policy"), *tests("client", "*"), *OF_CLIENTS],
+        tests("client", "test_cases", "test_hostile", "test_broken_off", "test_service"),
+        library=True,
+    ),
+    Part(
+        "alterations and walks of the client in Python",
+        [*package("client", "_messages", "_replies", "_watch", "_ecvrf", "policy"), *tests("client", "*"), *OF_CLIENTS],
+        tests("client", "test_alterations", "test_walks"),
+        library=True,
+    ),
+    Part(
+        "auditors",
+        [*package("audit", "notes", "_http"), *tests("audit", "*"), "embed/python/bin/coniks-audit"],
+        tests("audit", "test_audit", "test_notes"),
+        library=True,
+    ),
+    Part(
+        "coniks-client",
+        [
+            *package("contacts", "_client_state", "_http", "client", "notes"),
+            *tests("contacts", "*"),
+            "embed/python/bin/coniks-client",
+        ],
+        tests("contacts", "test_contacts"),
+        library=True,
+    ),
+    Part(
+        "records of owners",
+        [*package("vouching"), *tests("contacts", "*"), "cases/second/vouched.py", "cases/second/convicts"],
+        tests("contacts", "test_vouching"),
+        library=True,
+    ),
+]
+
+SHARED_BY_SERVICES = [f"examples/tests/{it}.py" for it in ("conftest", "services", "facts", "loads", "holders", "auditing")]
+SERVICE = [
+    Part(
+        f"the service: {name}",
+        ["examples/service/**", *SHARED_BY_SERVICES, *package(*modules.split())],
+        [f"examples/tests/test_service_{name}.py"],
+        library=True,
+    )
+    for name, modules in {
+        "replies": "names _replies",
+        "life": "provider _host log",
+        "attacks": "",
+        "audit": "audit notes",
+        "clients": "contacts vouching names",
+        "operation": "log guard",
+        "load": "",
+    }.items()
+]
+
+LANGUAGES = [
+    Part(
+        "the library for C",
+        ["embed/c/*", "embed/build", "embed/install", "scripts/unproved-library", *OF_SIDES],
+        ["embed/tests/test_c_library.py"],
+        ["--proofs", "500", "--calls", "2000"],
+        library=True,
+    ),
+    Part(
+        "the client in C",
+        ["embed/c/client*", "embed/tests/native_clients.py", "include/*"],
+        ["embed/tests/test_client_in_c.py"],
+        library=True,
+    ),
+    Part(
+        "the package in Python",
+        [*package("__init__"), "embed/python/*", "embed/python/src/coniks/py.typed", *OF_SIDES],
+        ["embed/tests/test_side_in_python.py", "embed/tests/test_python_values.py"],
+        library=True,
+    ),
+    Part(
+        "the package in Go",
+        [f"embed/go/{it}" for it in ("*", "example/*", "internal/**", "testdata/*")] + OF_SIDES,
+        ["embed/tests/test_side_in_go.py"],
+        library=True,
+    ),
+    Part("the client in Go", ["embed/go/client/**"], ["embed/tests/test_client_in_go.py"], library=True),
+    Part("the package in Rust", ["embed/rust/**", *OF_SIDES], ["embed/tests/test_side_in_rust.py"], library=True),
+    *[
+        Part(
+            f"cases of the client in {language}",
+            [*of, *OF_CLIENTS],
+            ["embed/tests/test_clients.py"],
+            ["-k", language, "--alterations", "40"],
+            library=language != "JavaScript",
+            module=language == "JavaScript",
+        )
+        for language, of in {
+            "Go": ["embed/go/client/**"],
+            "Rust": ["embed/rust/**"],
+            "JavaScript": ["web/src/*", "web/client_answers.mjs"],
+            "C": ["embed/c/client*", "embed/tests/native_clients.py"],
+        }.items()
+    ],
+    Part(
+        "the module for web projects",
+        ["web/src/*", "web/build", "web/*.ts", "web/*.json", "web/*.mjs", *OF_SIDES],
+        ["embed/tests/test_side_in_javascript.py"],
+        library=True,
+        module=True,
+    ),
+    Part(
+        "the modules in JavaScript",
+        ["web/src/*", "web/telling.mjs", "web/build"],
+        [f"web/tests/{it}.test.mjs" for it in ("arguments", "client", "client_arguments", "following", "keys", "page")],
+        module=True,
+    ),
+]
+
+# What the tests of pages share, and what each page is made of.
+OF_PAGES = [
+    "web/frame.html",
+    "web/style.css",
+    "web/build",
+    "web/src/elements.js",
+    "web/src/words.js",
+    "web/src/draw.js",
+    "web/src/lines.js",
+]
+OF_PAGES += [f"web/page_tests/{it}.py" for it in ("conftest", "browser", "given")]
+PAGES = [
+    *[
+        Part(
+            f"the page: {name}",
+            ["web/page.html", "web/src/*", "web/cases/*", "web/page_tests/picture.py", *OF_PAGES],
+            [f"web/page_tests/test_{name}.py"],
+            ["--lines", "100"] if name == "results" else [],
+            module=True,
+        )
+        for name in ("results", "deceptions", "ways")
+    ],
+    Part(
+        "proofs and signatures in JavaScript",
+        ["web/src/curve.js", "web/src/ecvrf.js", "web/src/schemes.js", "web/src/bytes.js", "web/ecvrf_answers.mjs"],
+        ["web/page_tests/test_ecvrf.py"],
+        ["--points", "50"],
+    ),
+    Part(
+        "the page that follows a service",
+        ["web/follow.html", "web/src/*", *OF_PAGES],
+        ["web/page_tests/test_follow.py"],
+        library=True,
+        module=True,
+    ),
+    Part(
+        "the page over a service",
+        ["web/follow.html", "web/src/follow*.js", "web/src/notes.js", "examples/service/**", *OF_PAGES],
+        ["web/page_tests/test_follow_service.py"],
+        library=True,
+        module=True,
+    ),
+]
+
+# The folders of cases that each second program passes.
+SECOND = {"keydir": ["run", "check", "audit", "monitor"], "provider": ["provider"]}
+CASES = [
+    *[
+        Part(f"{what} {program}", [*(f"cases/{it}/*" for it in folders), "cases/case_files.py"], [script, place])
+        for what, script in (("the cases over", "cases/compare"), ("the streams of", "cases/streams"))
+        for program, place, folders in (
+            ("keydir", KEYDIR, ["run", "check", "audit", "monitor", "words"]),
+            ("provider", PROVIDER, ["provider", "provider-words"]),
+        )
+    ],
+    Part("the hashed byte lists", ["cases/bytes.json"], ["cases/bytes", KEYDIR]),
+    Part("wrong programs", ["cases/wrong/*"], ["cases/wrong/told-apart", KEYDIR]),
+    Part("provider beside keydir", [], ["cases/like-run", PROVIDER]),
+    Part("a full board", ["cases/full-board.json"], ["cases/full-board", PROVIDER]),
+    Part("a directory of 100,000 names", ["cases/size.json", "cases/size_lines.py", "cases/limited.py"], ["cases/size", KEYDIR]),
+    Part("a restored directory", ["cases/restored.json", "cases/limited.py", "cases/size_lines.py"], ["cases/restored", PROVIDER]),
+    *[
+        Part(
+            f"{program} in Python",
+            ["cases/second/*", *(f"cases/{it}/*" for it in folders)],
+            ["cases/compare", f"cases/second/{program}", *folders],
+        )
+        for program, folders in SECOND.items()
+    ],
+    Part("the second directory at size", ["cases/second/*", "cases/size.json"], ["cases/second/at-size", "--check"]),
+    Part("forks", ["cases/second/*", "cases/evidence.jsonl"], ["cases/second/forks", "--check"]),
+    Part("the cases of clients", ["cases/second/*", "cases/client/*"], ["cases/second/clients", "--check"]),
+]
+
+REST = [
+    Part("the examples", ["examples/*.*", "examples/compare"], ["examples/compare"]),
+    Part("the library example", ["examples/library/*", "crates/library_example/**"], ["examples/library/compare"]),
+    Part(
+        "examples/provider",
+        ["examples/provider/*", "cases/second/supplied.py", *package("provider", "guard", "client")],
+        ["examples/tests/test_provider_example.py"],
+        library=True,
+    ),
+    Part("the README", ["README.md", "examples/provider/*", "examples/*.*"], ["examples/tests/test_readme.py"], library=True),
+    Part("documents", ["**/*.md", "*.md", "docs/**", "crates.txt", "crates/**"], ["docs/draw", "--check"]),
+    Part("linters", ["**"], ["scripts/lint"]),
+    Part(
+        "launchers",
+        ["keydir", "provider", *(f"scripts/{it}" for it in ("launch", "built", "processor", "compile-unproved", "unproved-kit"))],
+        ["scripts/tests/test_launcher.py"],
+    ),
+    Part("scripts/install", ["scripts/install", "docs/man/*", "docs/completion/*"], ["scripts/tests/test_install.py"]),
+    Part("scripts/crates", ["scripts/crates", "crates.txt"], ["scripts/tests/test_crates.py"]),
+    Part("scripts/price", ["scripts/price", "scripts/minutes.py"], ["scripts/tests/test_price.py"]),
+    Part("scripts/processor", ["scripts/processor"], ["scripts/tests/test_processor.py"]),
+    Part(
+        "the gate",
+        [
+            "gate",
+            ".ci/*",
+            "scripts/*",
+            "scripts/tests/conftest.py",
+            "conftest.py",
+            "pyproject.toml",
+            "**/test_*.py",
+            "**/*.test.mjs",
+        ],
+        ["scripts/tests/test_gate.py", "scripts/tests/test_parts.py"],
+    ),
+    Part("faults", ["faults/*"], ["faults/test_faults.py"]),
+]
+
+PARTS = [*PYTHON, *SERVICE, *LANGUAGES, *PAGES, *CASES, *REST]
+
+
+def parts_of(files: Iterable[str]) -> list[Part]:
+    """The parts that test one of these files."""
+    changed = [*files]
+    return [it for it in PARTS if any(map(it.has, changed))]
