@@ -15,7 +15,7 @@ GIVEN = re.compile(r"#\[tactic\(auto, using\((.*?)\)\)\](.*?)fn (\w+)", re.S)
 DEFINED = re.compile(r"\s*(?:(?:abbrev|unfoldable) pub|pub (?:data|record)) (\S+)")
 
 # What pages have in code spans beside names: commands, and parts of the names of files and crates.
-NO_NAMES = {"ci", "memcpy", "memmove", "memset", "FUNCTION", "METHOD", "MODULE", "TYPE", "_tests", "coniks_"}
+NO_NAMES = {"ci", "plant", "memcpy", "memmove", "memset", "FUNCTION", "METHOD", "MODULE", "TYPE", "_tests", "coniks_"}
 
 LEMMAS = """\
 # Lemmas

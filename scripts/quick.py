@@ -68,7 +68,8 @@ class Job:
     def run(self) -> Optional[list[int]]:
         """Prints each line as it comes. What passed, failed and was skipped, or None at the limit."""
         start, lines = time.monotonic(), []
-        words = ["timeout", "--signal=INT", str(self.limit), *self.words]
+        # In the foreground, so that an interrupt reaches what it runs.
+        words = [*(["timeout", "--foreground", "--signal=INT", str(self.limit)] if self.limit else []), *self.words]
         setting = os.environ | {"CONIKS_UNPROVED": "1", "PYTHONUNBUFFERED": "1"}
         with subprocess.Popen(
             words, cwd=self.home, env=setting, stdout=subprocess.PIPE, stderr=subprocess.STDOUT, text=True, errors="replace"
@@ -83,8 +84,8 @@ class Job:
             self.tell(f"not at its end after {took}")
             return None
         counts = counts_of("\n".join(lines), ran.returncode)
-        if ran.returncode == 0 and counts == [0, 1, 0]:
-            # It counts nothing, and has passed.
+        if ran.returncode == 0 and counts == [0, 1, 0] and not re.search(r"[1-9]\d* failed", "".join(lines[-1:])):
+            # It counts nothing that is known here, and has passed.
             counts = [1, 0, 0]
         self.tell(f"{'FAILED' if counts[1] else 'ok'}, {took}")
         return counts

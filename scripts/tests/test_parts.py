@@ -134,14 +134,16 @@ def test_jobs(capfd: pytest.CaptureFixture[str]) -> None:
         job("second", "echo from second; exit 1", ["first"]),
         job("third", "echo never", ["second"]),
         job("fourth", "echo never", ["third"]),
-        job("fifth", "sleep 60", limit=1),
+        job("fifth", "exec sleep 60", limit=1),
         job("sixth", "exit 0", ["elsewhere"]),
+        job("seventh", "echo 'test result: ok. 5 passed; 0 failed'"),
+        job("eighth", "echo 0 passed, 1 failed"),
     ]
     lacking = quick.run_jobs(jobs, tally)
     said = capfd.readouterr().out
-    assert tally.line() == "4 passed, 1 failed, 1 skipped"
+    assert tally.line() == "5 passed, 2 failed, 1 skipped"
     assert sorted(lacking) == [
-        "fifth, ended after 1 s: cd . && sh -c sleep 60",
+        "fifth, ended after 1 s: cd . && sh -c exec sleep 60",
         "fourth, since third failed",
         "third, since second failed",
     ]
