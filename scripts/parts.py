@@ -236,7 +236,7 @@ SERVICE = [
 LANGUAGES = [
     Part(
         "the library for C",
-        ["embed/c/*", "embed/build", "embed/install", "scripts/unproved-library", *OF_SIDES],
+        ["embed/c/*", "embed/build", "embed/install", *OF_SIDES],
         ["embed/tests/test_c_library.py"],
         ["--proofs", "500", "--calls", "2000"],
         library=True,
@@ -385,6 +385,11 @@ REST = [
     ),
     Part("scripts/install", ["scripts/install", "docs/man/*", "docs/completion/*"], ["scripts/tests/test_install.py"]),
     Part("scripts/crates", ["scripts/crates", "crates.txt"], ["scripts/tests/test_crates.py"]),
+    Part(
+        "the library without a proof",
+        ["scripts/unproved-library", "scripts/unproved-kit", "scripts/compile-unproved", "crates/coniks_c/src/*", "include/*"],
+        ["scripts/tests/test_unproved.py"],
+    ),
     Part("scripts/price", ["scripts/price", "scripts/minutes.py"], ["scripts/tests/test_price.py"]),
     Part("scripts/processor", ["scripts/processor"], ["scripts/tests/test_processor.py"]),
     Part(

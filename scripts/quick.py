@@ -121,15 +121,10 @@ def job_of(part: parts.Part, programs: dict[str, str]) -> Job:
     return Job(part.name, words, after)
 
 
-def changed_crates(files: Sequence[str]) -> list[str]:
-    """The crates whose sources, definitions or proofs changed, lowest first."""
-    found = {
-        name
-        for _, name, folder, *_ in (it.split("/") for it in files if it.startswith("crates/"))
-        if folder in ("src", "specs", "proofs")
-    }
-    below = crates()
-    return sorted(found & below.keys(), key=lambda it: (len(crates(it)), it))
+def changed_crates(files: Sequence[str], *folders: str) -> list[str]:
+    """The crates in which a file of these folders changed, lowest first."""
+    found = {found[1] for it in files if (found := re.fullmatch(rf"crates/(\w+)/({'|'.join(folders)})/.*", it))}
+    return sorted(found & crates().keys(), key=lambda it: (len(crates(it)), it))
 
 
 def has_tests(crate: str) -> bool:
@@ -142,8 +137,8 @@ def crate_jobs(names: Sequence[str]) -> list[Job]:
     for name in names:
         jobs.append(Job(f"rt check in {name}", ["rt", "check"], before, TOP / "crates" / name, LONGEST))
         before = [jobs[-1].name]
-    tested = [it for name in names for it in (name, f"{name}_tests") if (TOP / "crates" / it).is_dir() and has_tests(it)]
-    return jobs + [Job(f"tests of {it}", ["rt", "try", "--test"], home=TOP / "crates" / it) for it in dict.fromkeys(tested)]
+    tested = [it for it, needs in crates().items() if not {it, *needs}.isdisjoint(names) and has_tests(it)]
+    return jobs + [Job(f"tests in {it}", ["rt", "try", "--test"], home=TOP / "crates" / it) for it in tested]
 
 
 def run_jobs(jobs: Sequence[Job], tally: Tally) -> list[str]:
@@ -176,7 +171,7 @@ def run_jobs(jobs: Sequence[Job], tally: Tally) -> list[str]:
 def quick(tally: Tally) -> None:
     since, files = changed_files()
     say(f"gate: quick, which proves at most the crates that changed: {len(files)} files {since}")
-    names = changed_crates(files)
+    names = changed_crates(files, "src", "specs", "proofs")
     over = [it for built, found in OVER.items() if not crates(built).keys().isdisjoint(names) for it in found]
     chosen = [it for it in parts.PARTS if it.name in over or any(map(it.has, files))]
     programs = places()
@@ -185,15 +180,18 @@ def quick(tally: Tally) -> None:
     begun = [it for it in build_jobs(programs) if it.name in needed]
     lacking = run_jobs([*begun, *crate_jobs(names), *jobs], tally)
     say("")
-    for it in [*lacking, *left_out(chosen, names)]:
+    for it in [*lacking, *left_out(chosen, names, changed_crates(files, "must-fail"))]:
         say(f"not run: {it}")
 
 
-def left_out(chosen: Sequence[parts.Part], names: Sequence[str]) -> list[str]:
-    """What the jobs leave out, and the command that runs it."""
+def left_out(chosen: Sequence[parts.Part], names: Sequence[str], edited: Sequence[str]) -> list[str]:
+    """What the jobs leave out, and the command that runs it: of the chosen parts, of crates that changed, and of crates whose must-fail
+    edits did."""
     lines = [f"all of {it.name}: {it.whole()}" for it in chosen if it.whole()]
     if names:
         lines.append(
             f"the proofs of the crates above, and the must-fail edits: rt ci {' '.join(names)} (scripts/price has the minutes)"
         )
+    elif edited:
+        lines.append(f"the must-fail edits: rt must-fail {' '.join(edited)}")
     return [*lines, f"{len(parts.PARTS) - len(chosen)} parts of which no file changed, and every proof: ./gate"]

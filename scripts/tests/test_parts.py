@@ -153,6 +153,22 @@ def test_jobs(capfd: pytest.CaptureFixture[str]) -> None:
 def test_left_out() -> None:
     """What is left out is told with the command that runs it."""
     guard = next(it for it in parts.PARTS if it.name == "the guard")
-    lines = quick.left_out([guard], ["coniks_tree"])
+    lines = quick.left_out([guard], ["coniks_tree"], ["coniks_c"])
     assert lines[0] == f"all of the guard: scripts/pytest {' '.join(guard.tests)}"
     assert "rt ci coniks_tree" in lines[1] and lines[-1].endswith("./gate")
+    assert "rt must-fail coniks_c" in quick.left_out([], [], ["coniks_c"])[0]
+
+
+def test_crates() -> None:
+    """A crate is checked if a file of its sources changed, after those below it, and the crates with its tests are tried."""
+    files = [
+        "crates/coniks_tree/src/tree.rt",
+        "crates/coniks_proof/proofs/Lemmas.antt",
+        "crates/coniks_c/must-fail/a.edit",
+        "crates",
+    ]
+    names = quick.changed_crates(files, "src", "specs", "proofs")
+    assert names == ["coniks_proof", "coniks_tree"] and quick.changed_crates(files, "must-fail") == ["coniks_c"]
+    jobs = {it.name: it for it in quick.crate_jobs(names)}
+    assert jobs["rt check in coniks_tree"].after == ["rt check in coniks_proof"]
+    assert {"tests in coniks_base_tests", "tests in coniks_directory_tests"} < jobs.keys()
