@@ -44,11 +44,11 @@ TESTS = [
     ("coniks_directory_tests", "tests::refused::restore::page", False),
     ("coniks_directory_tests", "tests::refused::restore::add", False),
     ("coniks_directory_tests", "tests::refused::restore::finish", True),
-    ("coniks_proof_tests", "tests::collisions::refused_in_turn", False),
-    ("coniks_tree_tests", "tests::pages::refused_in_turn", False),
-    ("coniks_chain_tests", "tests::refused_in_turn", False),
-    ("coniks_tool_tests", "tests::refused::by_one", False),
-    ("coniks_tool_tests", "tests::refused::by_three", True),
+    ("coniks_base_tests", "tests::proof::refused_in_turn", False),
+    ("coniks_base_tests", "tests::tree::refused_in_turn", False),
+    ("coniks_base_tests", "tests::chain::refused_in_turn", False),
+    ("coniks_directory_tests", "tests::tool::refused::by_one", False),
+    ("coniks_directory_tests", "tests::tool::refused::by_three", True),
 ]
 
 # Cases that the programs run.

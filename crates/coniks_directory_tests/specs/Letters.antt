@@ -9,13 +9,7 @@ abbrev pub high : Octets → ℕ
 high name =
     if bytes_eq name (codes "b") then 0x80
     else (if bytes_eq name (codes "c") then 0x40
-    else (if bytes_eq name (codes "d") then 0x20
-    else (if bytes_eq name (codes "p") then 0x10
-    else (if bytes_eq name (codes "q") then 0x10 else 0))))
-
--- the last byte of a name's index
-abbrev pub low : Octets → ℕ
-low name = if bytes_eq name (codes "z") then 1 else 0
+    else (if bytes_eq name (codes "d") then 0x20 else 0))
 
 abbrev pub index_of_letter : Octets → Octets
-index_of_letter name = slice_set (slice_set zeros 0 (high name)) 31 (low name)
+index_of_letter name = slice_set zeros 0 (high name)

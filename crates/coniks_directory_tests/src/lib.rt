@@ -1,4 +1,5 @@
-//! Tests of `coniks_directory` through its public calls, in a separate crate so that `coniks_directory` is proved once.
+//! Tests of `coniks_shared`, `coniks_work`, `coniks_directory` and `coniks_tool` through their public calls, in a separate
+//! crate so that each library is proved once. They test what no contract says.
 #![tactic(auto)]
 
 #[cfg(test)]

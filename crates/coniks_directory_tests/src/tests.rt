@@ -1,26 +1,12 @@
-//! Tests. Another program computed the expected digests and entries.
+//! Tests. Another program computed the expected digests, entries and outputs.
 
 mod answers;
-mod asking;
-mod batches;
-mod bindings;
-mod boards;
 mod clerk;
-mod clients;
-mod epochs;
-mod gates;
-mod groups;
-mod indexed;
-mod installs;
-mod largest;
-mod outside;
+mod directory;
 mod refused;
-mod restores;
-mod rotations;
 mod runs;
-mod supplied_clerk;
-mod supplied_refusals;
-mod supplying;
-mod together;
-mod updates;
-mod watchers;
+mod shared;
+mod texts;
+mod tool;
+mod watching;
+mod work;

@@ -125,16 +125,6 @@ impl Board {
     }
 }
 
-#[cfg(test)]
-impl Board {
-    /// Returns the word that is at this position now.
-    pub(crate) fn word(&self, at: usize) -> u64
-        requires { at ≤ 5 * self.now.capacity }
-    {
-        self.table.shared.peek(at)
-    }
-}
-
 /// Stores one word of the next block.
 fn put(
     table: &Shared<u8, BoardView, usize, ByBoard>,

@@ -26,8 +26,6 @@ mod claims_rule;
 mod errors;
 mod head_words;
 pub mod laws;
-#[cfg(test)]
-mod tests;
 
 pub use board::{Board, MAX_HEADS, Publisher, Watcher};
 pub use claims::{Claims, Drawer, MAX_DRAWERS, MAX_NUMBERS};

@@ -28,8 +28,6 @@ pub mod laws;
 mod parallelism;
 mod places;
 mod pool;
-#[cfg(test)]
-mod tests;
 mod upwards;
 mod work;
 mod worker;

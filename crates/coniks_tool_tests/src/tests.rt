@@ -1,6 +1,0 @@
-mod boards;
-mod failing;
-mod program;
-mod refused;
-mod scripts;
-mod seals;

@@ -1,5 +1,0 @@
-//! The tests of `coniks_tree`, by its public calls. They are a crate of their own, so that the library is proved once.
-#![tactic(auto)]
-
-#[cfg(test)]
-mod tests;

@@ -1,7 +1,0 @@
-//! Batches built by several workers.
-
-mod batches;
-mod epochs;
-mod limits;
-mod pools;
-mod sharing;
