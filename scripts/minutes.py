@@ -34,13 +34,27 @@ def kind_of(words: list[str], home: str) -> str:
     return "compilers" if "--crate-checked" in words else "proof"
 
 
-def look(process: str) -> Optional[tuple[str, str, str, float]]:
-    """The start, crate and kind of a process of `rattle`, and its seconds so far; None for another process."""
+def fields_of(process: str) -> tuple[str, list[str]]:
+    """The name of a process, and the fields of its state after the name."""
     with open(f"/proc/{process}/stat", encoding="utf-8", errors="replace") as file:
         name, _, rest = file.read().partition("(")[2].rpartition(")")
-    if name != "rattle":
+    return name, rest.split()
+
+
+def is_ours(process: str) -> bool:
+    """Whether this process started a process, or what started it."""
+    while process not in ("0", "1"):
+        if process == str(os.getpid()):
+            return True
+        process = fields_of(process)[1][1]
+    return False
+
+
+def look(process: str) -> Optional[tuple[str, str, str, float]]:
+    """The start, crate and kind of a process of `rattle` that was started from here, and its seconds so far; None for another process."""
+    name, fields = fields_of(process)
+    if name != "rattle" or not is_ours(process):
         return None
-    fields = rest.split()
     with open(f"/proc/{process}/cmdline", encoding="utf-8", errors="replace") as file:
         words = file.read().split("\0")
     if "--crate-name" not in words:

@@ -72,6 +72,11 @@ def test_sampler(tmp_path: Path) -> None:
     assert 1 < times["sampled"]["proof"] <= min(took, 2.5)
 
 
+def test_sampler_of_others() -> None:
+    """A process that was not started from here is not counted."""
+    assert minutes.is_ours(str(os.getpid())) and not minutes.is_ours(str(os.getppid()))
+
+
 def test_note(tmp_path: Path, monkeypatch: pytest.MonkeyPatch) -> None:
     """A crate that a run has not proved keeps what an earlier run noted."""
     monkeypatch.setattr(minutes, "FILE", tmp_path / "out/minutes.json")
