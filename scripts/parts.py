@@ -303,16 +303,18 @@ OF_PAGES = [
     "web/src/lines.js",
 ]
 OF_PAGES += [f"web/page_tests/{it}.py" for it in ("conftest", "browser", "given")]
+# Beside other tests the large inputs take minutes, and the page replies too late meanwhile.
+PAGE_OPTIONS: dict[str, list[str]] = {"results": ["--lines", "100"], "deceptions": [], "ways": ["-k", "not long and not many"]}
 PAGES = [
     *[
         Part(
             f"the page: {name}",
             ["web/page.html", "web/src/*", "web/cases/*", "web/page_tests/picture.py", *OF_PAGES],
             [f"web/page_tests/test_{name}.py"],
-            ["--lines", "100"] if name == "results" else [],
+            options,
             module=True,
         )
-        for name in ("results", "deceptions", "ways")
+        for name, options in PAGE_OPTIONS.items()
     ],
     Part(
         "proofs and signatures in JavaScript",
