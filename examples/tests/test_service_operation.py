@@ -8,6 +8,7 @@ import re
 import resource
 import shutil
 import signal
+import socket
 import ssl
 import subprocess
 import tempfile
@@ -51,7 +52,9 @@ def proxied(other: Running, tmp_path: Path) -> Iterator[str]:
     other.start("--rate", "3", "--behind-proxy", "--recent", "1000")
     words = "openssl req -x509 -newkey rsa:2048 -nodes -days 1 -subj /CN=keys.example.com -keyout privkey.pem -out fullchain.pem"
     subprocess.run(words.split(), cwd=tmp_path, capture_output=True, check=True)
-    port, text = other.port + 1 if other.port < 65000 else other.port - 1, (DEPLOY / "nginx.conf").read_text("utf-8")
+    with socket.socket() as free:
+        free.bind(("127.0.0.1", 0))
+        port, text = free.getsockname()[1], (DEPLOY / "nginx.conf").read_text("utf-8")
     for old, new in [
         ("127.0.0.1:8080", f"127.0.0.1:{other.port}"), ("listen 443", f"listen 127.0.0.1:{port}"), ("listen [::]:443 ssl http2;", ""),
         ("/etc/ssl/coniks", str(tmp_path)), ("/var/log/nginx", str(tmp_path)), ("/var/cache/nginx", str(tmp_path)),
