@@ -1,7 +1,7 @@
 """The parts of the tests: which files each of them tests, and what runs it.
 
 `./gate quick` runs the parts of which a file changed. Each test of the repository is in a part, and each file is of a part or in
-`OTHERS` (scripts/tests/test_parts.py).
+`ALONE` (scripts/tests/test_parts.py).
 """
 
 from __future__ import annotations
@@ -11,7 +11,7 @@ from dataclasses import dataclass
 from functools import cache
 from typing import Iterable, Sequence
 
-# What stands in a command for a program.
+# The words of a command that `./gate quick` replaces by the path of a program.
 KEYDIR, PROVIDER = "KEYDIR", "PROVIDER"
 
 # The tests that `./gate quick` leaves out, since they take minutes: they kill processes, or interrupt calls at each bytecode.
