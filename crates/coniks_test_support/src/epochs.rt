@@ -7,7 +7,7 @@ ghost use Rattle.coniks_tree.specs.declared.table.Record.{Record};
 
 use crate::records::{Added, Bound, add, changes_to, records_of};
 use crate::values::NONCE;
-use coniks_proof::{Digest, Hash32, Index, MAX_LEVEL, Nonce, Prefix, Proof};
+use coniks_proof::{Hash32, Index, MAX_LEVEL, Prefix, Proof};
 use coniks_tree::{Change, OutOfMemory, Part, Root, Tree, lefts};
 use std::alloc::Global;
 
@@ -87,24 +87,6 @@ impl<H: Hash32> Epochs<H> {
         (self.tree.nodes(), self.tree.records())
     }
 
-    /// Returns the hash of a root, or zeros if the tree has no such root.
-    pub fn hash(&self, root: Root) -> Digest {
-        if root.0 < self.tree.nodes() {
-            self.tree.node_hash(root)
-        } else {
-            Digest([0; 32])
-        }
-    }
-
-    /// Returns the number of the record at an index, if the tree has the root and it shows such a record.
-    pub fn find(&self, root: Root, index: &Index) -> Option<usize> {
-        if root.0 < self.tree.nodes() {
-            self.tree.find(root, index).map(|place| place.0)
-        } else {
-            None
-        }
-    }
-
     /// Returns the authentication path to an index.
     ///
     /// # Errors
@@ -138,27 +120,6 @@ impl<H: Hash32> Epochs<H> {
             Ok(self.tree.page(root, after, most)?)
         } else {
             Err(OutOfMemory)
-        }
-    }
-
-    /// Builds the entries of a root again under another nonce, and returns the root's hash. Its errors are those of
-    /// `path`.
-    pub fn hash_under(&self, root: Root, nonce: &Nonce) -> Result<Digest, OutOfMemory> {
-        let changes = self.entries(root)?;
-        let top = Prefix::root();
-        let part = self
-            .tree
-            .grow(&self.h, nonce, Part::Nothing, &top, &changes)?;
-        Ok(self.tree.part_hash(&self.h, nonce, &part))
-    }
-
-    /// Returns the key at an index, if the tree has the root and it shows such a record.
-    pub fn key(&self, root: Root, index: &Index) -> Option<&[u8]> {
-        if root.0 < self.tree.nodes() {
-            let place = self.tree.find(root, index)?;
-            Some(self.tree.record(place).binding.key.as_slice())
-        } else {
-            None
         }
     }
 }

@@ -1,4 +1,4 @@
-//! Values, trees, streams, signers, gates and watchers for tests and measurements.
+//! Values, trees, streams, signers, a gate and watchers for tests and measurements.
 //!
 //! No function here asserts or aborts: a test unwraps the result.
 #![tactic(auto)]
@@ -12,7 +12,7 @@ mod values;
 mod watches;
 
 pub use epochs::{Epochs, part_before};
-pub use gates::{Counts, Crowd, Meeting};
+pub use gates::Meeting;
 pub use records::{Added, Bound, add, changes_to, known, record_of, records_of};
 pub use signers::{Only, Stamp, Yes};
 pub use streams::{FailIn, FailOut, NEVER, Stop};
