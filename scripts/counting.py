@@ -14,7 +14,8 @@ NODE = re.compile(r"^ℹ (pass|fail|cancelled|skipped) (\d+)$", re.M)
 
 
 def say(text: str) -> None:
-    print(text, flush=True)
+    """Prints a line at once, whole also beside other threads."""
+    print(f"{text}\n", end="", flush=True)
 
 
 def counts_of(text: str, status: int) -> list[int]:

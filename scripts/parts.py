@@ -7,7 +7,7 @@
 from __future__ import annotations
 
 import re
-from dataclasses import dataclass
+from dataclasses import dataclass, replace
 from functools import cache
 from typing import Iterable, Sequence
 
@@ -29,6 +29,7 @@ def pattern(text: str) -> re.Pattern[str]:
 class Part:
     """A part of the tests. `of` has patterns of the files that it tests, and `tests` its files of tests, or the command that runs it.
     With `options` pytest runs it in less time. What needs the library for C, or the module for browsers, has `library` or `module`.
+    What fails on a busy machine is `alone` in the whole gate: it has limits of time.
     """
 
     name: str
@@ -37,6 +38,7 @@ class Part:
     options: Sequence[str] = ()
     library: bool = False
     module: bool = False
+    alone: bool = False
 
     def has(self, file: str) -> bool:
         """Whether a file is tested by this part, or is a test of it."""
@@ -49,10 +51,10 @@ class Part:
         """Whether a command takes a program, or starts one by its launcher."""
         return not self.is_pytest() and ("examples" in self.tests[0] or any(it in (KEYDIR, PROVIDER) for it in self.tests))
 
-    def command(self) -> list[str]:
-        """What `./gate quick` runs, at the top of the repository."""
+    def command(self, is_whole: bool = False) -> list[str]:
+        """What the gate runs, at the top of the repository."""
         if self.is_pytest():
-            return ["scripts/pytest", "--quiet", "-rs", *self.tests, *self.options]
+            return ["scripts/pytest", "--quiet", "-rs", *self.tests, *([] if is_whole else self.options)]
         if self.tests[0].endswith(".mjs"):
             return ["node", "--test", "--test-reporter=spec", *self.tests]
         return [*self.tests]
@@ -93,6 +95,8 @@ OF_CLIENTS = [
 OF_SIDES = ["include/coniks.h", "embed/texts.json", "embed/sample", "embed/proof_bytes.py"]
 OF_SIDES += [f"embed/tests/{it}.py" for it in ("conftest", "messages", "model", "running", "samples", "sides")]
 
+OF_CONTACTS = package("contacts", "_person", "_own_names", "_confirming", "_telling", "commands")
+
 PYTHON = [
     Part(
         "the guard",
@@ -105,6 +109,7 @@ PYTHON = [
         [*package("guard", "_postgres_guard"), *OF_CLUSTERS],
         tests("cluster", "test_row_guards"),
         SHORT,
+        alone=True,
     ),
     Part(
         "the log",
@@ -162,22 +167,45 @@ PYTHON = [
         tests("provider", "interrupts"),
         tests("provider", "test_interrupts"),
     ),
-    Part("the log in PostgreSQL", [*package("postgres"), *OF_CLUSTERS], tests("cluster", "test_logs", "test_log_refusals")),
-    Part("ends of its calls", [*package("postgres"), *OF_CLUSTERS], tests("cluster", "test_log_ends"), SHORT),
-    Part("replicas", [*package("replica", "postgres", "_host", "_engine"), *OF_CLUSTERS], tests("cluster", "test_replicas")),
+    Part(
+        "the log in PostgreSQL",
+        [*package("postgres"), *OF_CLUSTERS],
+        tests("cluster", "test_logs", "test_log_refusals"),
+        alone=True,
+    ),
+    Part("ends of its calls", [*package("postgres"), *OF_CLUSTERS], tests("cluster", "test_log_ends"), SHORT, alone=True),
+    Part(
+        "replicas",
+        [*package("replica", "postgres", "_host", "_engine"), *OF_CLUSTERS],
+        tests("cluster", "test_replicas"),
+        alone=True,
+    ),
     Part(
         "snapshots of a cluster",
         [*package("_postgres_snapshot", "_restoring", "replica", "postgres"), *OF_CLUSTERS],
         tests("cluster", "test_shared_snapshots"),
+        alone=True,
     ),
-    Part("mistakes in a cluster", [*package("replica", "postgres"), *OF_CLUSTERS], tests("cluster", "test_cluster_mistakes")),
+    Part(
+        "mistakes in a cluster",
+        [*package("replica", "postgres"), *OF_CLUSTERS],
+        tests("cluster", "test_cluster_mistakes"),
+        alone=True,
+    ),
     Part(
         "faults of a cluster",
         [*package("replica", "postgres"), *OF_CLUSTERS, *tests("cluster", "cluster_faults"), "examples/cluster/node.py"],
         tests("cluster", "test_cluster_faults"),
         ["--faults", "1"],
+        alone=True,
     ),
-    Part("examples/cluster", ["examples/cluster/*", *package("replica", "postgres")], tests("cluster", "test_example")),
+    Part(
+        "examples/cluster",
+        ["examples/cluster/*", *package("replica", "postgres")],
+        tests("cluster", "test_example"),
+        library=True,
+        alone=True,
+    ),
     Part(
         "the client in Python",
         [*package("client", "_messages", "_replies", "_watch", "_ecvrf", "policy"), *tests("client", "*"), *OF_CLIENTS],
@@ -192,18 +220,26 @@ PYTHON = [
     ),
     Part(
         "auditors",
-        [*package("audit", "notes", "_http"), *tests("audit", "*"), "embed/python/bin/coniks-audit"],
+        [*package("audit", "notes", "_http", "commands"), *tests("audit", "*"), "embed/python/bin/coniks-audit"],
         tests("audit", "test_audit", "test_notes"),
         library=True,
     ),
     Part(
         "coniks-client",
         [
-            *package("contacts", "_client_state", "_http", "client", "notes"),
+            *OF_CONTACTS,
+            *package("_client_state", "_http", "client", "notes"),
             *tests("contacts", "*"),
             "embed/python/bin/coniks-client",
         ],
         tests("contacts", "test_contacts"),
+        library=True,
+    ),
+    Part(
+        "coniks-client and a hostile service",
+        [*OF_CONTACTS, *tests("contacts", "schedules")],
+        tests("contacts", "test_schedules"),
+        ["--schedules", "20"],
         library=True,
     ),
     Part(
@@ -221,13 +257,14 @@ SERVICE = [
         ["examples/service/**", *SHARED_BY_SERVICES, *package(*modules.split())],
         [f"examples/tests/test_service_{name}.py"],
         library=True,
+        alone=name in ("operation", "load"),
     )
     for name, modules in {
         "replies": "names _replies",
         "life": "provider _host log",
         "attacks": "",
         "audit": "audit notes",
-        "clients": "contacts vouching names",
+        "clients": "contacts _person _own_names _confirming vouching names",
         "operation": "log guard",
         "load": "",
     }.items()
@@ -313,6 +350,7 @@ PAGES = [
             [f"web/page_tests/test_{name}.py"],
             options,
             module=True,
+            alone=name == "ways",
         )
         for name, options in PAGE_OPTIONS.items()
     ],
@@ -385,7 +423,12 @@ REST = [
         ["keydir", "provider", *(f"scripts/{it}" for it in ("launch", "built", "processor", "compile-unproved", "unproved-kit"))],
         ["scripts/tests/test_launcher.py"],
     ),
-    Part("scripts/install", ["scripts/install", "docs/man/*", "docs/completion/*"], ["scripts/tests/test_install.py"]),
+    Part(
+        "scripts/install",
+        ["scripts/install", "docs/man/*", "docs/completion/*"],
+        ["scripts/tests/test_install.py"],
+        library=True,
+    ),
     Part("scripts/crates", ["scripts/crates", "crates.txt"], ["scripts/tests/test_crates.py"]),
     Part(
         "the library without a proof",
@@ -412,6 +455,15 @@ REST = [
 ]
 
 PARTS = [*PYTHON, *SERVICE, *LANGUAGES, *PAGES, *CASES, *REST]
+
+
+def whole() -> list[Part]:
+    """The parts whose tests are all tests, each once: some parts have one file of tests with other options."""
+    found: dict[tuple[str, ...], Part] = {}
+    for it in PARTS:
+        other = found.setdefault(tuple(it.tests), it)
+        found[tuple(it.tests)] = replace(other, library=other.library or it.library, module=other.module or it.module)
+    return [*found.values()]
 
 
 def parts_of(files: Iterable[str]) -> list[Part]:

@@ -9,7 +9,7 @@ import time
 from concurrent.futures import FIRST_COMPLETED, Future, ThreadPoolExecutor, wait
 from dataclasses import dataclass
 from pathlib import Path
-from typing import Optional, Sequence
+from typing import Callable, Optional, Sequence, Union
 
 import parts
 from counting import Tally, counts_of, say
@@ -70,7 +70,7 @@ class Job:
         start, lines = time.monotonic(), []
         # In the foreground, so that an interrupt reaches what it runs.
         words = [*(["timeout", "--foreground", "--signal=INT", str(self.limit)] if self.limit else []), *self.words]
-        setting = os.environ | {"CONIKS_UNPROVED": "1", "PYTHONUNBUFFERED": "1"}
+        setting = os.environ | {"PYTHONUNBUFFERED": "1"}
         with subprocess.Popen(
             words, cwd=self.home, env=setting, stdout=subprocess.PIPE, stderr=subprocess.STDOUT, text=True, errors="replace"
         ) as ran:
@@ -91,6 +91,20 @@ class Job:
         return counts
 
 
+@dataclass
+class Step:
+    """A call that runs beside jobs, and returns what went wrong, if anything."""
+
+    name: str
+    call: Callable[[], str]
+    after: Sequence[str] = ()
+
+    def run(self) -> list[int]:
+        wrong = self.call()
+        say(f"{self.name}: {wrong or 'ok'}")
+        return [0, int(bool(wrong)), 0]
+
+
 def is_built(program: str) -> bool:
     """Whether the proved program is of the present sources, for whichever processor."""
     file = TOP / f"crates/{program}/out/{program}"
@@ -109,10 +123,10 @@ def build_jobs(programs: dict[str, str]) -> list[Job]:
     return [*unproved, Job("embed/build", ["embed/build"]), Job("web/build", ["web/build"])]
 
 
-def job_of(part: parts.Part, programs: dict[str, str]) -> Job:
-    """The job of a part."""
+def job_of(part: parts.Part, programs: dict[str, str], is_whole: bool = False) -> Job:
+    """The job of a part, with what its options leave out if it is the whole one."""
     after = ["embed/build"] * part.library + ["web/build"] * part.module
-    words = [programs[PROGRAMS[it]] if it in PROGRAMS else it for it in part.command()]
+    words = [programs[PROGRAMS[it]] if it in PROGRAMS else it for it in part.command(is_whole)]
     if part.is_pytest() and not part.tests[0].startswith("scripts/"):
         words += [f"--{it}={place}" for it, place in programs.items()]
         after += programs
@@ -141,12 +155,16 @@ def crate_jobs(names: Sequence[str]) -> list[Job]:
     return jobs + [Job(f"tests in {it}", ["rt", "try", "--test"], home=TOP / "crates" / it) for it in tested]
 
 
-def run_jobs(jobs: Sequence[Job], tally: Tally) -> list[str]:
-    """Runs the jobs, as many at a time as there are processors. What was not run, or not to its end."""
+def processors() -> int:
+    return len(os.sched_getaffinity(0))
+
+
+def run_jobs(jobs: Sequence[Union[Job, Step]], tally: Tally, most: int = 0) -> list[str]:
+    """Runs the jobs, as many at a time as there are processors, or at most `most`. What was not run, or not to its end."""
     left, ended, lacking = [*jobs], dict[str, bool](), list[str]()
     names = {it.name for it in jobs}
-    with ThreadPoolExecutor(len(os.sched_getaffinity(0))) as pool:
-        running: dict[Future[Optional[list[int]]], Job] = {}
+    with ThreadPoolExecutor(most or processors()) as pool:
+        running: dict[Future[Optional[list[int]]], Union[Job, Step]] = {}
         while left or running:
             for job in [*left]:
                 waits = [it for it in job.after if it in names]
@@ -160,7 +178,7 @@ def run_jobs(jobs: Sequence[Job], tally: Tally) -> list[str]:
             for done in wait(running, return_when=FIRST_COMPLETED).done:
                 job, counts = running.pop(done), done.result()
                 ended[job.name] = counts is None or not counts[1]
-                if counts is None:
+                if counts is None and isinstance(job, Job):
                     lacking.append(
                         f"{job.name}, ended after {job.limit} s: cd {job.home.relative_to(TOP)} && {' '.join(job.words)}"
                     )
@@ -169,6 +187,7 @@ def run_jobs(jobs: Sequence[Job], tally: Tally) -> list[str]:
 
 
 def quick(tally: Tally) -> None:
+    os.environ["CONIKS_UNPROVED"] = "1"
     since, files = changed_files()
     say(f"gate: quick, which proves at most the crates that changed: {len(files)} files {since}")
     names = changed_crates(files, "src", "specs", "proofs")

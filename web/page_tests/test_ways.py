@@ -7,6 +7,7 @@ import json
 import os
 import random
 import threading
+import time
 from functools import partial
 from http.server import SimpleHTTPRequestHandler, ThreadingHTTPServer
 from pathlib import Path
@@ -27,8 +28,9 @@ Say = Callable[[str], None]
 # holds it; beside other processes a browser waits for its turn.
 STOP, TRIES = int(os.environ.get("STOP", "250")), 4
 
-# Milliseconds of a lookup with all its steps, and bytes of the page.
-SLOWEST, LARGEST = 50, 150_000
+# Seconds in which the page shows its example, milliseconds of a lookup with all its steps, and bytes of the page. On idle cores the
+# example takes less than a second.
+OPENS, SLOWEST, LARGEST = 2, 50, 150_000
 
 TICKING = """window.longest = 0; window.last = 0; (function tick() { const now = performance.now();
     window.longest = Math.max(window.longest, now - window.last); window.last = now; window.ticking = setTimeout(tick); })(); 1"""
@@ -259,6 +261,22 @@ def test_many(browser: Browser, lines: Sequence[samples.Line], say: Say) -> None
     browser.value("document.getElementById('more').click(); 1")
     browser.until("document.querySelectorAll('#results > li').length >= 400")
     assert count(browser, "#results > li") == 400, "200 more are shown when asked for"
+
+
+def opened(browser: Browser) -> float:
+    """The seconds in which the page is opened and has shown its example."""
+    start = time.monotonic()
+    browser.open("about:blank")
+    browser.open(PAGE.as_uri())
+    wait(browser)
+    return time.monotonic() - start
+
+
+def test_opening(browser: Browser, say: Say) -> None:
+    """The page shows its example soon. A browser that has just started takes longer."""
+    took = [opened(browser) for _ in range(3)]
+    say(f"the page shows its example in {min(took):.1f} s")
+    assert min(took) < OPENS, (f"the first verdict comes within {OPENS} seconds", took)
 
 
 def test_speed(browser: Browser, say: Say) -> None:

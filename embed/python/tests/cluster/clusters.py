@@ -19,8 +19,8 @@ from coniks.replica import Replica
 
 
 Call = Callable[[], object]
-# Seconds in which each call must end while PostgreSQL answers nothing.
-PATIENCE, ENDS = 1, 6
+# Seconds that a call waits for PostgreSQL, and in which each call must end while PostgreSQL answers nothing.
+PATIENCE, ENDS = 2, 9
 
 
 class Cluster(ExitStack):

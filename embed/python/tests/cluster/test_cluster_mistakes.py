@@ -14,7 +14,7 @@ import pytest
 
 pytest.importorskip("psycopg")
 
-from clusters import ENDS, Call, Cluster
+from clusters import ENDS, PATIENCE, Call, Cluster
 from database import Database, soon
 from stand_ins import POLICY, Salted, Signer, guarded, index, opened, other_index, shown
 from coniks import Head
@@ -237,7 +237,7 @@ def test_absent(it: Cluster) -> None:
             it.refuses(f"PostgreSQL is {how}: commit", LogFailed, lambda: it.own.commit(epoch, []))
             for what, call in calls:
                 start = time.monotonic()
-                assert call() and time.monotonic() - start < 1, f"PostgreSQL is {how}: {what}"
+                assert call() and time.monotonic() - start < PATIENCE, f"PostgreSQL is {how}: {what}"
             it.refuses(f"PostgreSQL is {how}: restart", LogFailed, it.own.restart)
             it.refuses(f"PostgreSQL is {how}: follow", LogFailed, it.replica.follow)
             it.refuses(f"PostgreSQL is {how}: promotion", LogFailed, lambda: it.replica.promote(it.signer))

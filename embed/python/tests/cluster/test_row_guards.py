@@ -321,7 +321,7 @@ def test_stop(database: Database) -> None:
         time.sleep(0.5)
         database.start()
         signing.join(20)
-        assert row.used() == 2 and row.guard.signed() == row.last == mine + row.last[145:], "row: it waits for the server"
+        assert row.used() == 2 and patient.signed() == row.last == mine + row.last[145:], "row: it waits for the server"
         row.guard.close()
         for what, call in calls[:3]:
             says(f"row: a closed guard: {what}", RecordFailed, call, "the guard is closed")
