@@ -18,9 +18,9 @@ class Record:
         self.number = int.from_bytes(whole[8:16], "big")
         self.voucher, self.before, self.signature, self.key = whole[16:48], whole[48:80], whole[80:144], whole[144:]
 
-    def is_signed(self, policy: bytes, name: bytes, voucher: bytes) -> bool:
+    def is_signed(self, policy: bytes, name: bytes) -> bool:
         message = policy + number(len(name), 1) + name + self.whole[:80] + self.key
-        return curve.is_signed(voucher, message, self.signature)
+        return curve.is_signed(self.voucher, message, self.signature)
 
 
 def record_of(value: Optional[bytes]) -> Optional[Record]:
@@ -29,12 +29,10 @@ def record_of(value: Optional[bytes]) -> Optional[Record]:
     return Record(value) if value and is_record else None
 
 
-def made(
-    policy: bytes, name: bytes, secret: bytes, key: bytes, before: Optional[bytes] = None, voucher: Optional[bytes] = None
-) -> bytes:
+def made(policy: bytes, name: bytes, secret: bytes, key: bytes, before: Optional[bytes] = None) -> bytes:
     """The record after another one, or the first. `secret` signs it."""
     old = record_of(before)
-    front = TAG + number(old.number + 1 if old else 1, 8) + (voucher or curve.public_key(secret))
+    front = TAG + number(old.number + 1 if old else 1, 8) + curve.public_key(secret)
     front += sha256(before) if before else ZEROS
     return front + curve.sign(secret, policy + number(len(name), 1) + name + front + key) + key
 
@@ -48,9 +46,8 @@ def compared(policy: bytes, name: bytes, earlier: bytes, later: Optional[bytes])
     old, new = record_of(earlier), record_of(later)
     if old is None:
         return "unknown"
-    if new is None or new.number <= old.number:
+    if new is None or new.number <= old.number or new.voucher != old.voucher:
         return "unvouched"
-    is_next = new.number == old.number + 1
-    if new.is_signed(policy, name, old.voucher) and not (is_next and new.before != sha256(earlier)):
-        return "vouched"
-    return "unvouched" if is_next else "unknown"
+    if new.number == old.number + 1 and new.before != sha256(earlier):
+        return "unvouched"
+    return "vouched" if new.is_signed(policy, name) else "unvouched"

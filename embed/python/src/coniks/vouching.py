@@ -32,7 +32,7 @@ _FRONT = len(_TAG) + 8 + 32 + 32 + 64
 
 class Change(enum.Enum):
     """What a name's present bytes are to those that a friend has: equal; another record that the owner signed; one that the owner
-    didn't sign, or none; or nobody can say, as for a key without a record and after a change that the friend hasn't seen."""
+    didn't sign, or none; or nobody can say, since the friend's bytes are no record."""
 
     SAME = "same"
     VOUCHED = "vouched"
@@ -54,7 +54,8 @@ class Place:
 
 @dataclass(frozen=True)
 class Record:
-    """A record: its number, the key that signs the next one, the SHA-256 of the one before, the signature, and the owner's key."""
+    """A record: its number, the key that signs each record of the name, the SHA-256 of the record before, the signature, and the
+    owner's key."""
 
     number: int
     voucher: bytes
@@ -76,8 +77,8 @@ class Record:
         """What the signature signs."""
         return bytes(place) + bytes(replace(self, signature=b""))
 
-    def is_signed(self, place: Place, voucher: bytes) -> bool:
-        return is_signed(voucher, self.signed(place), self.signature)
+    def is_signed(self, place: Place) -> bool:
+        return is_signed(self.voucher, self.signed(place), self.signature)
 
 
 def first(place: Place, secret: SigningKey, key: bytes) -> bytes:
@@ -85,13 +86,12 @@ def first(place: Place, secret: SigningKey, key: bytes) -> bytes:
     return _made(place, secret, Record(1, bytes(secret.verify_key), bytes(32), b"", key))
 
 
-def following(place: Place, secret: SigningKey, before: bytes, key: bytes, voucher: Optional[bytes] = None) -> bytes:
-    """Returns the record after another one, which the secret key of that one signs. `voucher` is the public key that signs the next
-    one, by default the same."""
+def following(place: Place, secret: SigningKey, before: bytes, key: bytes) -> bytes:
+    """Returns the record after another one, which the same secret key signs."""
     old = Record.read(before)
     if old is None or old.voucher != bytes(secret.verify_key):
         raise ValueError("the bytes before are no record of this secret key")
-    return _made(place, secret, Record(old.number + 1, voucher or old.voucher, _sum(before), b"", key))
+    return _made(place, secret, Record(old.number + 1, old.voucher, _sum(before), b"", key))
 
 
 def _made(place: Place, secret: SigningKey, record: Record) -> bytes:
@@ -109,12 +109,10 @@ def judged(place: Place, before: bytes, now: Optional[bytes]) -> Change:
     old, new = Record.read(before), Record.read(now)
     if old is None and now is not None:
         return Change.UNKNOWN
-    if old is None or new is None or new.number <= old.number:
+    if old is None or new is None or new.number <= old.number or new.voucher != old.voucher:
         return Change.UNVOUCHED
-    is_next = new.number == old.number + 1
-    if new.is_signed(place, old.voucher) and (not is_next or new.before == _sum(before)):
-        return Change.VOUCHED
-    return Change.UNVOUCHED if is_next else Change.UNKNOWN
+    is_after = new.before == _sum(before) or new.number > old.number + 1
+    return Change.VOUCHED if is_after and new.is_signed(place) else Change.UNVOUCHED
 
 
 def is_allowed(place: Place, present: Optional[bytes], value: bytes) -> bool:
@@ -125,7 +123,7 @@ def is_allowed(place: Place, present: Optional[bytes], value: bytes) -> bool:
         return new is not None and new.number == old.number + 1 and judged(place, present, value) is Change.VOUCHED
     if new is None:
         return value[: len(_TAG)] != _TAG
-    return (new.number, new.before) == (1, bytes(32)) and new.is_signed(place, new.voucher)
+    return (new.number, new.before) == (1, bytes(32)) and new.is_signed(place)
 
 
 def convicts(policy: Policy, name: str, before: bytes, now: bytes) -> bool:

@@ -3,7 +3,7 @@
 from __future__ import annotations
 
 import re
-from itertools import product
+from itertools import combinations, product
 from pathlib import Path
 from typing import Optional
 
@@ -30,13 +30,11 @@ def records() -> dict[str, Optional[bytes]]:
     """Values of a name: genuine records, altered ones, and others."""
     start = first(ALICE, ONE, b"k")
     second = following(ALICE, ONE, start, b"l")
-    third = following(ALICE, ONE, second, b"m", bytes(OTHER.verify_key))
-    fourth = following(ALICE, OTHER, third, b"n")
+    third = following(ALICE, ONE, second, b"m")
     genuine = {
         "first": start,
         "second": second,
         "third": third,
-        "fourth": fourth,
         "another second": following(ALICE, ONE, start, b"x"),
     }
     others = {
@@ -47,6 +45,8 @@ def records() -> dict[str, Optional[bytes]]:
         "another key": second[:-1] + b"x",
         "another signature": second[:100] + bytes([second[100] ^ 1]) + second[101:],
         "another number": second[:15] + b"\3" + second[16:],
+        "a number far above": vouched.made(POLICY.digest, b"alice", bytes(OTHER), b"x", start[:8] + b"\x7f" * 8 + start[16:]),
+        "third of another voucher": third[:16] + bytes(OTHER.verify_key) + third[48:],
         "number 0": start[:15] + b"\0" + start[16:],
         "another record before": second[:48] + bytes(32) + second[80:],
         "another tag": b"vouched2" + start[8:],
@@ -76,10 +76,10 @@ def test_results() -> None:
     wanted = [
         ("first", "second", Change.VOUCHED),
         ("first", "third", Change.VOUCHED),
-        ("first", "fourth", Change.UNKNOWN),
-        ("second", "fourth", Change.UNKNOWN),
-        ("third", "fourth", Change.VOUCHED),
+        ("second", "third", Change.VOUCHED),
         ("second", "first", Change.UNVOUCHED),
+        ("first", "a number far above", Change.UNVOUCHED),
+        ("first", "third of another voucher", Change.UNVOUCHED),
         ("second", "another second", Change.UNVOUCHED),
         ("first", "second of another owner", Change.UNVOUCHED),
         ("first", "another key", Change.UNVOUCHED),
@@ -102,13 +102,31 @@ def test_allowed() -> None:
         "plain": ["first", "of another owner", "another tag", "plain"],
         "first": ["second", "another second"],
         "second": ["third"],
-        "third": ["fourth"],
-        "fourth": [],
+        "third": [],
     }
     for present, wanted in after.items():
         shown = None if present is None else RECORDS[present]
         taken = [it for it, value in RECORDS.items() if value is not None and is_allowed(ALICE, shown, value)]
         assert taken == wanted, present
+
+
+def test_small_world() -> None:
+    """Of all histories of five epochs: no two replies of a service that takes what it may convict it, and any two replies of any other
+    one convict it, or the owner of the first signed what the second shows."""
+    values = list(RECORDS.values())
+    honest = [[it] for it in values if it is not None and is_allowed(ALICE, None, it)]
+    for _ in range(4):
+        honest = [
+            [*it, value] for it in honest for value in values if value == it[-1] or value and is_allowed(ALICE, it[-1], value)
+        ]
+    assert len(honest) > 100
+    for history in honest:
+        assert not [it for it in combinations(history, 2) if judged(ALICE, *it) is Change.UNVOUCHED], history
+    for earlier, later in product(values, repeat=2):
+        owner, shown = vouched.record_of(earlier), vouched.record_of(later)
+        if earlier is None or owner is None or earlier == later or judged(ALICE, earlier, later) is Change.UNVOUCHED:
+            continue
+        assert shown and shown.voucher == owner.voucher and shown.is_signed(POLICY.digest, b"alice")
 
 
 def test_bytes() -> None:
