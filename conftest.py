@@ -42,6 +42,7 @@ def pytest_addoption(parser: pytest.Parser) -> None:
     group.addoption(
         "--alterations", type=int, default=200, metavar="N", help="alterations of a client's cases, and a quarter as many walks"
     )
+    group.addoption("--schedules", type=int, default=100, metavar="N", help="random schedules of a hostile service")
     group.addoption("--seed", type=int, default=1, metavar="N", help="where the random alterations and walks of clients begin")
     group.addoption(
         "--client", metavar="COMMAND", help="a client's program that replies to the requests of embed/tests/client_sides.py"

@@ -1,19 +1,22 @@
 # Completion of coniks-client for bash. scripts/install puts it where bash-completion finds it.
 _coniks_client() {
     local word=${COMP_WORDS[COMP_CWORD]} before=${COMP_WORDS[COMP_CWORD - 1]} words
-    local commands="begin register lookup verify watch compare evidence"
+    local commands="begin register lookup verify watch compare evidence set"
     case $before in
     --state | --policy | --token)
         mapfile -t COMPREPLY < <(compgen -f -- "$word")
         return
         ;;
-    --service | --auditor | --faulty) return ;;
+    --service | --auditor | --add-auditor | --remove-auditor | --faulty | --unwatch) return ;;
     esac
     if [ "$COMP_CWORD" -eq 1 ]; then
-        words="$commands --help"
+        words="$commands --help --version"
     else
-        words="--state --json --help"
-        [ "${COMP_WORDS[1]}" != begin ] || words="$words --service --policy --auditor --faulty --token"
+        words="--state --json --help --version"
+        case ${COMP_WORDS[1]} in
+        begin) words="$words --service --policy --auditor --faulty --token --without-auditors" ;;
+        set) words="$words --service --token --add-auditor --remove-auditor --faulty --without-auditors --unwatch" ;;
+        esac
     fi
     mapfile -t COMPREPLY < <(compgen -W "$words" -- "$word")
 }

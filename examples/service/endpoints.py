@@ -151,6 +151,8 @@ class Endpoints:
         query = request["query"]
         name, first, last = name_of(query.get("name", "")), *(number_of(query.get(it, ""), it) for it in ("first", "last"))
         chain = self._holder.directory.chain()
+        # Epochs that are forgotten have no proofs any more.
+        first = max(first, epoch_of(chain[self._metrics.first]))
         if bisect_right(chain, last, key=epoch_of) - bisect_left(chain, first, key=epoch_of) > SPAN:
             raise Problem(400, "TooLong", f"a history has at most {SPAN} epochs: ask for fewer at once")
         await self._check_sight(request, name, first)

@@ -52,11 +52,11 @@ class Metrics:
         self._lookups = Counter("coniks_lookups", "Lookups by what they show", ["outcome"], **mine)
         self.unexpected = Counter("coniks_unexpected", "Requests that ended by an error of the service", **mine)
         # The place in the chain of the oldest epoch that lookups may name.
-        self._first = 0
+        self.first = 0
         gauges: list[tuple[str, str, Callable[[], float]]] = [
             ("epoch", "The number of the latest epoch", lambda: directory.latest().epoch),
             ("epoch_age_seconds", "How long ago it began by the policy's clock", holder.age),
-            ("epochs_left", "How many epochs memory has room for", lambda: MOST_EPOCHS - (len(directory.chain()) - self._first)),
+            ("epochs_left", "How many epochs memory has room for", lambda: MOST_EPOCHS - (len(directory.chain()) - self.first)),
             ("names", "Registered names", lambda: directory.latest().names),
             ("nodes", "Nodes of the tree", lambda: directory.latest().nodes),
             ("operations_waiting", "Operations that wait for an epoch", lambda: collector.pending),
@@ -85,7 +85,7 @@ class Metrics:
             except UnknownEpoch:
                 return False
 
-        self._first = bisect_left(self._holder.directory.chain(), True, key=is_known)
+        self.first = bisect_left(self._holder.directory.chain(), True, key=is_known)
 
     def compact(self) -> None:
         """Stores a snapshot, or takes the one that the writer has stored, and forgets the epochs before it."""

@@ -64,8 +64,8 @@ class Running:
         keys = ["--keys", str(self.room / "keys"), "--program", self._program]
         return [PYTHON, str(HOME / "serve"), command, *keys, *self.place]
 
-    def make(self) -> None:
-        more = ["--origin", "keys.example.com", "--period", str(self.period)]
+    def make(self, *options: str) -> None:
+        more = ["--origin", "keys.example.com", "--period", str(self.period), *options]
         ran = subprocess.run([*self._words("make"), *more], capture_output=True, text=True)
         assert ran.returncode == 0, ran.stderr
 

@@ -56,7 +56,7 @@ def people(service: Running, library: None, tmp_path: Path, monkeypatch: pytest.
     found = [Person(tmp_path, it) for it in ("alice", "bob")]
     for it in found:
         files = ["--policy", str(tmp_path / "policy"), "--token", str(tmp_path / "token")]
-        assert it.run("begin", "--service", f"http://127.0.0.1:{service.port}", *files)[0] == 0
+        assert it.run("begin", "--without-auditors", "--service", f"http://127.0.0.1:{service.port}", *files)[0] == 0
     yield found
 
 

@@ -23,6 +23,7 @@ pytest.importorskip("aiohttp")
 pytest.importorskip("nacl.signing")
 
 import tools
+from replies import History
 from services import HOME, Running, named, until
 
 DEPLOY = HOME / "deploy"
@@ -196,6 +197,24 @@ def test_compact(other: Running) -> None:
     other.end()
     other.start()
     assert other.get(named("alice")).body.endswith(b"3") and other.get("/v1/entries").body.startswith(chain)
+
+
+def test_forgotten_epochs(packages: None, program: str, tmp_path: Path) -> None:
+    """Epochs that are forgotten don't keep back the history of the others."""
+    other = Running(tmp_path, program)
+    other.make("--kept", "1")
+    other.start("--recent", "1000")
+    try:
+        first = other.operate("register", "alice", b"key").json["epoch"]
+        until(lambda: bool(other.get("/v1/head").json["epoch"] > first + 4))
+        other.process.send_signal(signal.SIGUSR2)
+        until(lambda: other.get(f"{named('alice')}&epoch={first}").status == 404)
+        found = other.get(f"/v1/history?name=alice&first={first}&last={2**64 - 1}")
+        epochs = [epoch for epoch, _ in History(found.body).steps]
+        assert found.status == 200 and epochs == sorted(epochs) and epochs[0] > first
+    finally:
+        other.process.kill()
+        other.process.wait()
 
 
 @pytest.mark.postgres

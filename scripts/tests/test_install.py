@@ -24,7 +24,7 @@ FILES = [*PROGRAMS, "scripts/install", "scripts/launch", "scripts/crates", "scri
 FOLDERS = ["docs/man", "docs/completion", "embed/python/bin", "embed/python/src/coniks"]
 # The commands of the Python package, and the manual pages.
 COMMANDS = ["coniks-audit", "coniks-client"]
-PAGES = [*PROGRAMS, "coniks-client"]
+PAGES = [*PROGRAMS, *COMMANDS]
 SITE = "lib/python3/site-packages"
 PACKAGE = f"{SITE}/coniks"
 SECONDS = 60
@@ -354,7 +354,18 @@ def test_command(room: Path, prefix: Path) -> None:
         assert {*re.findall(r"--([a-z]+)", text)} == options and " ".join(commands) in text, file
 
 
-@pytest.mark.parametrize("word, wanted", [("re", "register"), ("", "begin register lookup verify watch compare evidence --help")])
+def test_audit(room: Path, prefix: Path) -> None:
+    """The manual page of coniks-audit has the options of its help."""
+    if run("/usr/bin/python3", "-c", "import nacl.signing").returncode:
+        pytest.skip("PyNaCl is missing")
+    install(room, prefix)
+    helped = {*re.findall(r"^  (?:-h, )?--([a-z-]+)", run(prefix / "bin/coniks-audit", "--help", COLUMNS="200").stdout, re.M)}
+    assert {*re.findall(r"^\.It Fl (?:h , Fl )?-([a-z-]+)", section("coniks-audit", "OPTIONS"), re.M)} == helped != set()
+
+
+@pytest.mark.parametrize(
+    "word, wanted", [("re", "register"), ("", "begin register lookup verify watch compare evidence set --help --version")]
+)
 def test_completion(word: str, wanted: str) -> None:
     """Bash completes the commands."""
     script = f'. docs/completion/coniks-client.bash; COMP_WORDS=(coniks-client "{word}") COMP_CWORD=1; _coniks_client; echo "${{COMPREPLY[*]}}"'

@@ -39,7 +39,9 @@ def answered(url: str, most: int, body: Optional[bytes] = None, headers: Mapping
     timer = None
     try:
         parts = urlsplit(url)
-        kind = {"http": HTTPConnection, "https": HTTPSConnection}[parts.scheme]
+        kind = {"http": HTTPConnection, "https": HTTPSConnection}.get(parts.scheme)
+        if kind is None:
+            raise ValueError("a URL begins with http:// or https://")
         connection = kind(parts.hostname or "", parts.port, timeout=CONNECTING)
         with closing(connection):
             connection.connect()
@@ -50,7 +52,7 @@ def answered(url: str, most: int, body: Optional[bytes] = None, headers: Mapping
             connection.request("GET" if body is None else "POST", target, body, dict(headers))
             found = connection.getresponse()
             text: bytes = found.read(most + 1)
-    except (OSError, HTTPException, KeyError, ValueError) as error:
+    except (OSError, HTTPException, ValueError) as error:
         raise Unusable(f"{url}: {type(error).__name__} {error}") from error
     finally:
         if timer:

@@ -3,10 +3,12 @@
     coniks-audit --new-key audit.key --name audit.example.org
     coniks-audit --policy policy --service https://keys.example.com --folder audit --key audit.key --name audit.example.org
 
+    coniks-audit --folder audit --listen 127.0.0.1:8081            serves what another process keeps in the folder
+
 The folder has `entries`, all entries that were accepted, `note`, the latest head with this auditor's cosignature, `metrics`, and
-`alarm`, once there is cause for one. Keep the folder with the key, and restore neither from an old backup: the auditor would cosign
-heads that overlap those that it has cosigned. Status 0: all is well; 1: an alarm; 2: a wrong command line; 3: the service or the
-folder can't be used, or the service is late.
+`alarm`, once there is cause for one. The latest head that was cosigned is beside the key too, in `KEY.head`: a folder that lacks it is
+refused. Restore neither file from an old backup: the auditor would cosign heads that overlap those that it has cosigned. Status 0: all
+is well; 1: an alarm; 2: a wrong command line; 3: the service or the folder can't be used, or the service is late.
 """
 
 from __future__ import annotations
@@ -27,10 +29,9 @@ from typing import Optional, Sequence
 
 from nacl.signing import SigningKey
 
-from . import ENTRY_LENGTH, Policy
+from . import ENTRY_LENGTH, Policy, __version__
 from ._files import lock, rewrite
 from ._http import PAGE, Unusable, fetched, new_entries
-from ._replies import catch_up
 from .client import Cause, Client, Comparison, Refusal
 from .notes import Auditor, BadNote, Note, cosign, read_note, text_of
 
@@ -50,11 +51,44 @@ class Alarm(Exception):
         super().__init__(f"{source}: {why}")
 
 
-class Audit:
-    """An auditor with its folder, which no other process has open."""
+class Shelf:
+    """What an auditor has in its folder, for those who ask."""
 
-    def __init__(self, folder: Path, policy: Policy, name: str, key: SigningKey):
-        self._folder, self._policy, self._name, self._key = folder, policy, name, key
+    def __init__(self, folder: Path):
+        self.folder = folder
+
+    def read(self, file: str) -> bytes:
+        """What a file of the folder has, nothing if it isn't there."""
+        with suppress(FileNotFoundError):
+            return (self.folder / file).read_bytes()
+        return b""
+
+    def entries(self, after: int) -> bytes:
+        """At most a page of the entries after an epoch."""
+        with suppress(FileNotFoundError), open(self.folder / "entries", "rb") as file:
+            low, high = 0, os.fstat(file.fileno()).st_size // ENTRY_LENGTH
+            end = high * ENTRY_LENGTH
+            while low < high:
+                middle = (low + high) // 2
+                is_before = int.from_bytes(os.pread(file.fileno(), 8, middle * ENTRY_LENGTH + 1), "big") <= after
+                low, high = (middle + 1, high) if is_before else (low, middle)
+            return os.pread(file.fileno(), min(PAGE, end - low * ENTRY_LENGTH), low * ENTRY_LENGTH)
+        return b""
+
+    def page(self, target: str) -> Optional[bytes]:
+        """What is served under a target, None if there is nothing."""
+        if found := re.fullmatch(r"/v1/entries\?after=(0|[1-9][0-9]{0,18})", target):
+            return self.entries(int(found[1]))
+        file = {"/v1/note": "note", "/alarm": "alarm", "/metrics": "metrics"}.get(target)
+        return self.read(file) or None if file else None
+
+
+class Audit:
+    """An auditor with its folder, which no other process audits in."""
+
+    def __init__(self, folder: Path, policy: Policy, name: str, key: SigningKey, cosigned: Path):
+        self._folder, self._policy, self._name, self._key, self._cosigned = folder, policy, name, key, cosigned
+        self.read = Shelf(folder).read
         self._client = Client(policy.signing_key, policy.vrf_key, policy)
         self._file = open(folder / "entries", "a+b")
         try:
@@ -71,17 +105,11 @@ class Audit:
         self._file.truncate(len(whole))
         try:
             self._client.feed(whole)
-            note = self.read("note")
-            if note and self._client.compare(read_note(note).head(self._policy)) is not Comparison.EQUAL:
+            notes = [self.read("note"), self._cosigned.read_bytes() if self._cosigned.exists() else b""]
+            if any(it and self._client.compare(read_note(it).head(self._policy)) is not Comparison.EQUAL for it in notes):
                 raise BadNote("the entries lack the head that was cosigned")
         except (Refusal, BadNote) as error:
             raise Unusable(f"{self._folder} was changed, or is an old backup: {error}") from error
-
-    def read(self, file: str) -> bytes:
-        """What a file of the folder has, nothing if it isn't there."""
-        with suppress(FileNotFoundError):
-            return (self._folder / file).read_bytes()
-        return b""
 
     def follow(self, source: str, is_whole: bool = False) -> None:
         """Takes the entries that a service or another auditor has, and stores those that are new. Raises `Alarm` for one that is signed
@@ -112,15 +140,20 @@ class Audit:
         for is_whole in (False, True):
             if self._client.compare(head) is not Comparison.EQUAL:
                 self.follow(peer, is_whole)
-        if self._client.compare(head) is not Comparison.EQUAL:
+        if self._client.compare(head) is Comparison.DIFFERS:
             raise Alarm(peer, "HEAD_DIFFERS", note=bytes(note).decode())
+        if self._client.compare(head) is Comparison.UNKNOWN:
+            raise Unusable(f"{peer}: the entries up to epoch {head.epoch} are withheld, which {auditor.name} has cosigned")
 
     def sign(self) -> None:
         """Cosigns the latest head, all entries up to which are stored."""
         head = self._client.head()
         if head and not self.read("alarm"):
             text = text_of(self._policy, head)
-            rewrite(self._folder / "note", bytes(Note(text, (cosign(self._name, self._key, text, int(time.time())),))))
+            note = bytes(Note(text, (cosign(self._name, self._key, text, int(time.time())),)))
+            # First beside the key: what was published must be there, whatever becomes of the folder.
+            for file in (self._cosigned, self._folder / "note"):
+                rewrite(file, note)
 
     def behind(self) -> int:
         """How many epochs of the policy's clock the latest entry is behind, 0 without a clock."""
@@ -156,26 +189,19 @@ class Audit:
         }
         return "".join(f"coniks_audit_{name} {value}\n" for name, value in rows.items()).encode()
 
-    def page(self, target: str) -> Optional[bytes]:
-        """What is served under a target, None if there is nothing."""
-        if found := re.fullmatch(r"/v1/entries\?after=(0|[1-9][0-9]{0,18})", target):
-            return catch_up(self._client.entries, int(found[1]))[:PAGE]
-        file = {"/v1/note": "note", "/alarm": "alarm", "/metrics": "metrics"}.get(target)
-        return self.read(file) or None if file else None
-
 
 def tell(event: str, text: str) -> None:
     print(json.dumps({"time": int(time.time()), "event": event, "text": text}), file=sys.stderr, flush=True)
 
 
-def serve(audit: Audit, address: str) -> None:
+def serve(shelf: Shelf, host: str, port: int) -> None:
     """Serves what an auditor has, in threads that end with the process. A proxy before it limits who asks."""
 
     class Handler(BaseHTTPRequestHandler):
         timeout = 10
 
         def do_GET(self) -> None:
-            body = audit.page(self.path)
+            body = shelf.page(self.path)
             self.send_response(404 if body is None else 200)
             self.send_header("Content-Type", "application/octet-stream" if "entries" in self.path else "text/plain; charset=utf-8")
             self.send_header("Content-Length", str(len(body or b"")))
@@ -185,26 +211,50 @@ def serve(audit: Audit, address: str) -> None:
         def log_message(self, *_: object) -> None:
             """Requests are not logged."""
 
-    host, _, port = address.rpartition(":")
-    server = ThreadingHTTPServer((host, int(port)), Handler)
+    server = ThreadingHTTPServer((host, port), Handler)
     threading.Thread(target=server.serve_forever, daemon=True).start()
+
+
+def address_of(text: str) -> tuple[str, int]:
+    """The host and the port of a command line."""
+    host, _, port = text.rpartition(":")
+    if not host or not re.fullmatch("[0-9]{1,5}", port) or int(port) > 65535:
+        raise argparse.ArgumentTypeError("expected HOST:PORT, for example 127.0.0.1:8081")
+    return host, int(port)
 
 
 def parsed(words: Optional[Sequence[str]]) -> argparse.Namespace:
     parser = argparse.ArgumentParser(prog="coniks-audit", description="Audits a key directory, and cosigns its heads.")
+    parser.add_argument("--version", action="version", version=f"coniks-audit {__version__}", help="print the version")
     parser.add_argument("--new-key", type=Path, metavar="FILE", help="draw a key, print its verifier key, and do nothing else")
-    parser.add_argument("--name", required=True, help="this auditor's name, for example audit.example.org")
+    parser.add_argument("--name", help="this auditor's name, for example audit.example.org")
     parser.add_argument("--policy", type=Path, metavar="FILE", help="the policy document, not from the service itself")
     parser.add_argument("--service", metavar="URL", help="the directory's service")
     parser.add_argument("--folder", type=Path, metavar="DIR", help="where the entries are, the note, the metrics and the alarm")
     parser.add_argument("--key", type=Path, metavar="FILE", help="the key that cosigns")
+    parser.add_argument(
+        "--head", type=Path, metavar="FILE", help="where the latest head is that the key cosigned (default: KEY.head)"
+    )
     parser.add_argument("--peer", nargs=2, action="append", default=[], metavar=("URL", "KEY"), help="another auditor")
     parser.add_argument("--interval", type=float, default=30, metavar="N", help="seconds between rounds (default: %(default)s)")
     parser.add_argument("--once", action="store_true", help="make one round, and end")
-    parser.add_argument("--listen", metavar="HOST:PORT", help="serve what this auditor has")
+    parser.add_argument(
+        "--listen", type=address_of, metavar="HOST:PORT", help="serve what is in the folder; alone it does nothing else"
+    )
     given = parser.parse_args(words)
-    if not given.new_key and None in (given.policy, given.service, given.folder, given.key):
-        parser.error("--policy, --service, --folder and --key are expected, or --new-key")
+    audits = [given.name, given.policy, given.service, given.folder, given.key]
+    if (
+        given.new_key
+        and given.name
+        or given.folder
+        and given.listen
+        and not any((given.name, given.policy, given.service, given.key))
+    ):
+        return given
+    if given.new_key or None in audits:
+        parser.error(
+            "--name, --policy, --service, --folder and --key are expected, or --name and --new-key, or --folder and --listen"
+        )
     return given
 
 
@@ -218,19 +268,21 @@ def new_key(path: Path, name: str) -> int:
 
 
 def run(given: argparse.Namespace) -> int:
-    """Audits until SIGTERM, an alarm, or the end of one round. What it serves stays after an alarm."""
-    policy, key = Policy.read(given.policy.read_bytes()), SigningKey(given.key.read_bytes())
-    peers = [(url, Auditor.read(text)) for url, text in given.peer]
-    audit, end = Audit(given.folder, policy, given.name, key), threading.Event()
+    """Audits until SIGTERM, an alarm, or the end of one round, or serves until SIGTERM."""
+    end = threading.Event()
     for number in (signal.SIGTERM, signal.SIGINT):
         signal.signal(number, lambda *_: end.set())
     if given.listen:
-        serve(audit, given.listen)
+        serve(Shelf(given.folder), *given.listen)
+    if not given.service:
+        end.wait()
+        return 0
+    policy, key = Policy.read(given.policy.read_bytes()), SigningKey(given.key.read_bytes())
+    audit = Audit(given.folder, policy, given.name, key, given.head or given.key.with_name(f"{given.key.name}.head"))
+    peers = [(url, Auditor.read(text)) for url, text in given.peer]
     is_well = audit.round(given.service, peers)
     while not (given.once or audit.read("alarm") or end.wait(given.interval)):
         is_well = audit.round(given.service, peers)
-    if given.listen and not given.once:
-        end.wait()
     return 1 if audit.read("alarm") or audit.read("alarm.peer") else 0 if is_well else 3
 
 
@@ -239,7 +291,7 @@ def main(words: Optional[Sequence[str]] = None) -> int:
     given = parsed(words)
     try:
         return new_key(given.new_key, given.name) if given.new_key else run(given)
-    except (OSError, ValueError, Unusable) as error:
+    except Exception as error:
         tell("ended", f"{type(error).__name__}: {error}")
         return 3
 

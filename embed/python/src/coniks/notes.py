@@ -12,7 +12,9 @@ from __future__ import annotations
 
 import base64
 import hashlib
+import math
 import re
+import time
 from dataclasses import dataclass
 from typing import Iterable, Optional, Sequence
 
@@ -24,6 +26,8 @@ from .policy import Policy
 
 __all__ = ["Auditor", "BadNote", "Note", "cosign", "is_agreed", "quorum", "read_note", "text_of"]
 
+# The most seconds by which an auditor's clock may be ahead.
+SKEW = 300
 _COSIGNATURE = b"\x04"  # the type of tlog-cosignature
 _NAME = re.compile("[!-*,-~]{1,255}")
 _LINE = re.compile("\u2014 ([^ +]+) ([A-Za-z0-9+/]+={0,2})")
@@ -88,10 +92,15 @@ class Note:
         """Returns the note with the lines by which an auditor cosigned it, and no others."""
         return Note(self.text, tuple(it for it in self.lines if self._time(it, auditor) is not None))
 
-    def times(self, auditors: Iterable[Auditor]) -> dict[str, int]:
-        """When each of these auditors cosigned the note, in Unix seconds, by its name. Other lines count for nothing."""
-        found = {it.name: [time for line in self.lines if (time := self._time(line, it)) is not None] for it in auditors}
-        return {name: max(times) for name, times in found.items() if times}
+    def times(self, auditors: Iterable[Auditor], until: float = math.inf) -> dict[str, int]:
+        """When each of these auditors cosigned the note, in Unix seconds, by its name. Other lines count for nothing, and those of a
+        time after `until`."""
+        found = {it.name: [self._time(line, it) for line in self.lines] for it in auditors}
+        return {
+            name: max(times)
+            for name, all_times in found.items()
+            if (times := [it for it in all_times if it is not None and it <= until])
+        }
 
     def _time(self, line: str, auditor: Auditor) -> Optional[int]:
         """When an auditor cosigned the note by a line, None if it did not."""
@@ -156,8 +165,10 @@ def quorum(auditors: int, faulty: int) -> int:
     return (auditors + faulty) // 2 + 1
 
 
-def is_agreed(note: Note, auditors: Sequence[Auditor], faulty: int, since: float) -> bool:
-    """Whether a quorum of the auditors that a client trusts cosigned a note at a time or later. Each name and each key counts once."""
+def is_agreed(note: Note, auditors: Sequence[Auditor], faulty: int, since: float, until: Optional[float] = None) -> bool:
+    """Whether a quorum of the auditors that a client trusts cosigned a note between two times, of which the later one is by default
+    five minutes from now. Each name and each key counts once."""
     if len({it.name for it in auditors}) < len(auditors) or len({it.key for it in auditors}) < len(auditors):
         raise ValueError("an auditor is listed twice")
-    return sum(it >= since for it in note.times(auditors).values()) >= quorum(len(auditors), faulty)
+    times = note.times(auditors, time.time() + SKEW if until is None else until)
+    return sum(it >= since for it in times.values()) >= quorum(len(auditors), faulty)

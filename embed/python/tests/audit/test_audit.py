@@ -56,7 +56,7 @@ class Room:
         return main(self.words(service, "--once", *more))
 
     def opened(self) -> Audit:
-        return Audit(self.folder, POLICY, self.name, KEYS[self.name])
+        return Audit(self.folder, POLICY, self.name, KEYS[self.name], self.home / "key.head")
 
     def read(self, file: str) -> bytes:
         path = self.folder / file
@@ -298,6 +298,10 @@ def test_lying_peers(room: Room) -> None:
             assert room.once(*words) == 3 and not room.alarm and not room.read("alarm.peer"), note
         peer.note, peer.page = published(WORLD, 6), lambda after: b"x"
         assert room.once(*words) == 0, "a head that is equal needs no entries"
+        later = World([*client_world.BATCHES, (7, {})])
+        for page in (b"", b"".join(later.entries()[:-1]), later[6]):
+            peer.note, peer.page = published(later, 7), lambda after: b"".join(it for it in [page] if after < 6)
+            assert room.once(*words) == 3 and not room.read("alarm.peer"), "entries that someone on the way withholds are no alarm"
 
 
 def test_command(tmp_path: Path, capsys: pytest.CaptureFixture[str]) -> None:
@@ -311,17 +315,84 @@ def test_command(tmp_path: Path, capsys: pytest.CaptureFixture[str]) -> None:
         main(["--name", "one"])
     assert ended.value.code == 2
     room = Room(tmp_path / "one")
-    with socket.socket() as free:
-        free.bind(("127.0.0.1", 0))
-        at = f"127.0.0.1:{free.getsockname()[1]}"
+    at = f"127.0.0.1:{free_port()}"
     with Source(WORLD.entries()) as source:
-        words = room.words(source.url, "--interval", "0.05", "--listen", at)
-        running = subprocess.Popen([sys.executable, "-m", "coniks.audit", *words], stderr=subprocess.DEVNULL)
+        audits = [*room.words(source.url, "--interval", "0.05"), "--listen", f"127.0.0.1:{free_port()}"]
+        serves = ["--folder", str(room.folder), "--listen", at]
+        running, serving = (
+            subprocess.Popen([sys.executable, "-m", "coniks.audit", *it], stderr=subprocess.DEVNULL) for it in (audits, serves)
+        )
         try:
             check_served(room, source, at)
+            assert running.wait(60) == 1, "it ends at the alarm, and what it had is served by another process"
+            assert served(at, "/alarm") == room.read("alarm")
         finally:
-            running.terminate()
-            assert running.wait(60) == 1
+            running.kill()
+            serving.terminate()
+            assert serving.wait(60) == 0
+
+
+def free_port() -> int:
+    with socket.socket() as free:
+        free.bind(("127.0.0.1", 0))
+        return int(free.getsockname()[1])
+
+
+@pytest.mark.parametrize("address", ["8081", ":8081", "127.0.0.1", "127.0.0.1:", "127.0.0.1:x", "127.0.0.1:70000"])
+def test_bad_addresses(address: str, capsys: pytest.CaptureFixture[str]) -> None:
+    """An address without a host would be open to everyone."""
+    with pytest.raises(SystemExit) as ended:
+        main(["--folder", "x", "--listen", address])
+    assert ended.value.code == 2 and "HOST:PORT" in capsys.readouterr().err
+
+
+def test_emptied_folder(room: Room) -> None:
+    """A folder that lacks what its key has cosigned is refused: the auditor would cosign another chain."""
+    with Source(WORLD.entries()) as source:
+        assert room.once(source.url) == 0 and (room.home / "key.head").read_bytes() == room.read("note")
+        for file in room.folder.iterdir():
+            file.unlink()
+        source.entries = FORKS["the last entry"].entries()
+        assert room.once(source.url) == 3 and not room.read("note") and not room.read("entries")
+        (room.folder / "entries").write_bytes(b"".join(WORLD.entries(1, 2, 3, 5)))
+        assert room.once(source.url) == 3, "an old backup"
+        (room.folder / "entries").write_bytes(b"".join(WORLD.entries()))
+        source.entries = WORLD.entries()
+        assert room.once(source.url) == 0
+
+
+@pytest.mark.parametrize("epoch", [3, 5])
+@pytest.mark.parametrize("rotated", [None, 3, 5])
+def test_withheld_entries(room: Room, rotated: Optional[int], epoch: int) -> None:
+    """An entry that is withheld for a while is no alarm, whatever it has changed."""
+    world = World(client_world.BATCHES, rotated)
+    with Source(world.entries(1, 2)) as source:
+        assert room.once(source.url) == 3 and room.head == head_of(world, 2), "it is late"
+        source.entries = [it for it in world.entries() if it != world[epoch]]
+        assert room.once(source.url) == 3 and not room.alarm
+        source.entries = world.entries()
+        assert room.once(source.url) == 0
+
+
+def test_unexpected(room: Room, monkeypatch: pytest.MonkeyPatch) -> None:
+    """An error of the program is status 3, and no alarm."""
+
+    def raising(*_: object) -> None:
+        raise AssertionError("a fault")
+
+    monkeypatch.setattr(_http, "answered", raising)
+    assert room.once("http://127.0.0.1:1") == 3 and not room.alarm
+
+
+def test_without_a_package(tmp_path: Path) -> None:
+    """A package that is missing is status 3 in one line."""
+    (tmp_path / "nacl").mkdir()
+    (tmp_path / "nacl/__init__.py").write_text("raise ImportError('no PyNaCl here')\n")
+    path = os.pathsep.join([str(tmp_path), str(Path(audit.__file__).parent.parent)])
+    for command in ("audit", "client"):
+        words = [sys.executable, "-m", "coniks.commands", command, "--help"]
+        ran = subprocess.run(words, capture_output=True, text=True, env=os.environ | {"PYTHONPATH": path})
+        assert (ran.returncode, ran.stderr) == (3, f"coniks-{'audit' if command == 'audit' else 'client'}: no PyNaCl here\n")
 
 
 def check_served(room: Room, source: Source, at: str) -> None:

@@ -6,6 +6,7 @@ import base64
 import json
 import os
 import random
+import re
 import subprocess
 import sys
 import time
@@ -23,7 +24,7 @@ from client_world import World, digest, hour
 from directories import BEGUN, WORLD, Directory, Reply
 from nacl.signing import SigningKey
 from sources import dripping
-from coniks import Head, Policy, _http, contacts
+from coniks import Head, Policy, _confirming, _http, _own_names, _person, contacts
 from coniks._client_state import StateFile
 from coniks.client import Client
 from coniks.notes import Auditor, Note, cosign, text_of
@@ -58,7 +59,7 @@ class Person:
         return status, [json.loads(it) for it in captured.out.splitlines()]
 
     def begin(self, directory: Directory, *auditors: tuple[str, str], faulty: int = 0) -> int:
-        words = [word for it in auditors for word in ("--auditor", *it)]
+        words = [word for it in auditors for word in ("--auditor", *it)] or ["--without-auditors"]
         files = ["--policy", str(self.room / "policy"), "--token", str(self.room / "token"), "--faulty", str(faulty)]
         return self.run("begin", "--service", directory.url, *files, *words)[0]
 
@@ -118,7 +119,8 @@ def test_sentences(person: Person, capsys: pytest.CaptureFixture[str]) -> None:
     """Without --json a sentence is printed, with the directory's name."""
     assert contacts.main(["lookup", "--state", str(person.state), "alice"]) == 0
     assert (
-        'keys.example.com: "alice" has the key "key of alice". You have not verified it yet (epoch 2)\n' in capsys.readouterr().out
+        'keys.example.com: "alice" has the key "key of alice". You have not verified it yet (epoch 2, which no auditor confirms)\n'
+        in capsys.readouterr().out
     )
 
 
@@ -128,14 +130,16 @@ def test_own_name(person: Person, directory: Directory) -> None:
     assert status == 0 and (lines[0]["key"], lines[0]["epochs"]) == ("key one", [3])
     record = directory.world.epochs[3].names[client_world.index("dave")][2]
     read = vouched.record_of(record)
-    assert read and (read.number, read.key) == (1, b"key one") and read.is_signed(digest(), b"dave", read.voucher)
+    assert read and (read.number, read.key) == (1, b"key one") and read.is_signed(digest(), b"dave")
     assert person.run("register", "dave", "key one")[0] == 0 and len(directory.operations) == 1, "once"
     directory.commit(4)
     directory.commit(5)
     assert person.run("watch")[1][0]["epochs"] == [4, 5]
     status, lines = person.run("register", "dave", "key two")
     changed = directory.world.epochs[6].names[client_world.index("dave")][2]
-    assert status == 0 and lines[0]["epochs"] == [6] and directory.operations[1]["op"] == "change"
+    assert status == 0 and lines[0]["epochs"] == [5, 6] and directory.operations[1]["op"] == "change"
+    beside = ", which no auditor confirms"
+    assert lines[0]["text"] == f'"dave" has your key "key one" (epoch 5{beside}) and "key two" (epoch 6{beside})'
     assert vouched.compared(digest(), b"dave", record, changed) == "vouched"
     assert person.run("watch")[0] == 0 and not person.stored()["found"]
 
@@ -154,12 +158,17 @@ def test_waiting(person: Person, directory: Directory) -> None:
 
 
 def test_refused(person: Person, directory: Directory) -> None:
-    """What a service refuses isn't watched, and its words do nothing to a terminal."""
+    """A refusal deletes no secret key, and its words do nothing to a terminal: the same bytes are sent again."""
     directory.refusal = "no \x1b[2J\u202e, said the service"
     status, lines = person.run("register", "dave", "key one")
-    assert status == 3 and lines[0]["text"].endswith("no ?[2J?, said the service") and not person.stored()["own"]
+    assert status == 3 and lines[0]["text"].endswith("no \\u{1b}[2J\\u{202e}, said the service")
+    assert person.run("watch")[0] == 3 and person.run("register", "dave", "key two")[0] == 3
     directory.refusal = ""
-    assert person.run("register", "alice", "key of alice")[0] == 0, "the directory of the test takes each operation"
+    assert person.run("register", "dave", "key one")[0] == 0 and len({it["key"] for it in directory.operations}) == 1
+    directory.refusal = "a replica that is late"
+    assert person.run("register", "dave", "key two")[0] == 3 and person.stored()["own"]["dave"]["value"]
+    directory.refusal = ""
+    assert person.run("register", "dave", "key two")[0] == 0 and len({it["key"] for it in directory.operations}) == 2
 
 
 def test_refused_after_it_was_stored(person: Person, directory: Directory) -> None:
@@ -197,9 +206,134 @@ def test_replaced_key(person: Person, directory: Directory) -> None:
     assert person.run("watch")[0] == 1, "it is not forgotten"
 
 
+def own_record(directory: Directory, epoch: int) -> bytes:
+    """The bytes that dave has at an epoch."""
+    return directory.world.epochs[epoch].names[client_world.index("dave")][2]
+
+
+def is_alarm(ran: tuple[int, list[dict[str, Any]]], epoch: int) -> bool:
+    """Whether a run says that dave has another key at an epoch, and nothing that contradicts it."""
+    status, lines = ran
+    wrong = [it for it in lines if it["status"] == 1 and it.get("name") == "dave"]
+    return status == 1 and [it["epochs"] for it in wrong] == [[epoch]] and not any("your key" in it["text"] for it in lines)
+
+
+def test_replaced_key_again(person: Person, directory: Directory) -> None:
+    """The alarm stays as long as the latest epoch shows the other key, for each command."""
+    person.run("register", "dave", "key one")
+    directory.commit(4, dave=b"key of mallory")
+    for _ in range(3):
+        assert is_alarm(person.run("watch"), 4)
+    assert is_alarm(person.run("register", "dave", "key one"), 4) and len(directory.operations) == 1
+    status, lines = person.run("register", "dave", "key two")
+    assert is_alarm((status, lines), 4) and len(directory.operations) == 1, "nothing is signed after another's key"
+    for words in [("lookup", "dave"), ("verify", "dave", "key of mallory"), ("verify", "dave", "key one")]:
+        status, lines = person.run(*words)
+        assert status == 1 and "which is not yours" in lines[0]["text"], words
+    assert convicted(person) == ["unvouched"]
+
+
+HISTORIES: list[tuple[str, Callable[[Directory], Callable[[Mapping[str, str]], Optional[Reply]]]]] = [
+    ("refused", lambda _: lambda _: Reply(b"", 503)),
+    ("without a step", lambda it: lambda _: Reply(it.world.history("dave"))),
+    ("of another epoch", lambda it: lambda _: Reply(it.world.history("dave", 2))),
+    ("no bytes", lambda _: lambda _: Reply(b"")),
+]
+
+
+@pytest.mark.parametrize("what, lie", HISTORIES, ids=[it[0] for it in HISTORIES])
+def test_withheld_history(
+    what: str, lie: Callable[[Directory], Callable[[Mapping[str, str]], Optional[Reply]]], person: Person, directory: Directory
+) -> None:
+    """A key that was replaced is told and kept, whatever the service withholds of earlier epochs."""
+    person.run("register", "dave", "key one")
+    directory.commit(4)
+    directory.commit(5, dave=b"key of mallory")
+    directory.lies["/v1/history"] = lie(directory)
+    status, lines = person.run("watch")
+    assert is_alarm((status, lines), 5) and convicted(person) == ["unvouched"], what
+    directory.lies["/v1/lookup"] = lambda _: Reply(b"", 503)
+    assert person.run("watch")[0] == 1, "it is not forgotten"
+
+
+def test_refused_for_a_period(person: Person, directory: Directory, clock: Clock) -> None:
+    """A promised proof that is refused for longer than a period is an alarm. It ends if the proof comes."""
+    person.run("register", "dave", "key one")
+    directory.commit(4)
+    directory.commit(5)
+    directory.lies["/v1/history"] = lambda _: Reply(b"", 503)
+    clock.seconds = hour(5, 10)
+    assert person.run("watch")[0] == 3
+    clock.seconds += 3600
+    assert person.run("watch")[0] == 3
+    clock.seconds += 1
+    status, lines = person.run("watch")
+    assert status == 1 and "epoch 4 for more than 3600 seconds" in lines[-2]["text"] and lines[-2]["missing"] == [4]
+    del directory.lies["/v1/history"]
+    assert person.run("watch")[0] == 0
+    directory.lies["/v1/lookup"] = lambda _: Reply(b"", 503)
+    assert person.run("watch")[0] == 3
+    directory.commit(7)
+    clock.seconds = hour(7, 100)
+    status, lines = person.run("watch")
+    assert status == 1 and "for more than 3600 seconds" in lines[1]["text"]
+
+
+def test_squatted(person: Person, directory: Directory) -> None:
+    """A name that someone else has registered is told with that key, and nothing is signed or sent."""
+    status, lines = person.run("register", "alice", "key of mine")
+    assert status == 1 and lines[0]["text"].startswith('"alice" is taken: it has the key "key of alice" (epoch 2)')
+    assert not directory.operations and not person.stored()["own"]
+    directory.commits = False
+    person.run("register", "dave", "key one")
+    directory.commit(3, dave=b"key of mallory")
+    for words in [("watch",), ("register", "dave", "key one")]:
+        status, lines = person.run(*words)
+        assert status == 1 and lines[0]["text"].startswith('"dave" has another key than yours, "key of mallory" (epoch 3)')
+    assert [it["kind"] for it in person.stored()["found"]] == ["changed"]
+
+
+def test_another_key_at_an_early_epoch(person: Person, directory: Directory) -> None:
+    """An epoch whose proof came late is judged by the key that the name had then, also after a second change."""
+    person.run("register", "dave", "key one")
+    one = own_record(directory, 3)
+    directory.commits = False
+    assert person.run("register", "dave", "key two")[0] == 3
+    two = base64.b64decode(directory.operations[-1]["key"])
+    directory.commit(4)
+    directory.commit(5, dave=two)
+    directory.lies["/v1/history"] = lambda _: Reply(b"", 503)
+    assert person.run("watch")[0] == 3 and person.run("register", "dave", "key three")[0] == 3
+    assert len({it["key"] for it in directory.operations}) == 2, "no third key is signed before epoch 4 is verified"
+    del directory.lies["/v1/history"]
+    directory.commits = True
+    status, lines = person.run("register", "dave", "key three")
+    keys = [key for key, _ in BY_KEY.findall(lines[0]["text"])]
+    assert status == 0 and keys == ["key one", "key two", "key three"] and one != two
+
+
+def test_restored(person: Person, directory: Directory) -> None:
+    """A state from before a change of the key is an alarm until its owner gives the present key."""
+    person.run("register", "dave", "key one")
+    before = person.state.read_bytes()
+    person.run("register", "dave", "key two")
+    person.state.write_bytes(before)
+    assert person.run("watch")[0] == 1
+    for wrong in ("key one", "key three"):
+        assert person.run("register", "dave", wrong)[0] == 1 and len(directory.operations) == 2
+    status, lines = person.run("register", "dave", "key two")
+    assert lines[0]["text"].startswith('"dave" has your key "key two" (epoch 4') and lines[0]["status"] == 0
+    assert person.run("register", "dave", "key three")[1][0]["key"] == "key three" and person.run("watch")[1][0]["status"] == 0
+    record = vouched.record_of(own_record(directory, directory.latest))
+    assert record and record.number == 3
+
+
+BY_KEY = re.compile(r'"([^"]*)" \((epochs? [^),]*)')
+
+
 def test_refused_page(person: Person, directory: Directory, monkeypatch: pytest.MonkeyPatch) -> None:
     """What a page of a history shows is told and kept, though the service refuses the next one."""
-    monkeypatch.setattr(contacts, "_SPAN", 1)
+    monkeypatch.setattr(_own_names, "_SPAN", 1)
     person.run("register", "dave", "key one")
     record = directory.world.epochs[3].names[client_world.index("dave")][2]
     directory.commit(4, dave=b"key of mallory")
@@ -412,6 +546,80 @@ def test_bad_keys(key: str, person: Person, directory: Directory, capsys: pytest
     assert not directory.operations
 
 
+@pytest.mark.parametrize("url", ["keys.example.com", "ftp://x", "http://", "http://x:0", "http://x:port", "http://x?y", ""])
+def test_bad_urls(url: str, tmp_path: Path, capsys: pytest.CaptureFixture[str]) -> None:
+    for words in [["begin", "--policy", "x", "--without-auditors", "--service", url], ["set", "--service", url]]:
+        with pytest.raises(SystemExit) as ended:
+            contacts.main(words)
+        assert ended.value.code == 2 and "a URL begins with http" in capsys.readouterr().err
+
+
+def test_begun_at_a_wrong_place(tmp_path: Path, capsys: pytest.CaptureFixture[str], directory: Directory) -> None:
+    """A service that isn't there leaves no state, which would be in the way of the right one."""
+    it = Person(tmp_path, capsys)
+    directory.lies["/v1/entries"] = lambda _: Reply(b"", 404)
+    assert it.begin(directory) == 3 and not it.state.exists()
+    del directory.lies["/v1/entries"]
+    assert it.begin(directory) == 0 and it.state.exists()
+
+
+def test_unexpected(person: Person, monkeypatch: pytest.MonkeyPatch) -> None:
+    """An error of the program is told in one line, and is no alarm."""
+
+    def raising(*_: object) -> None:
+        raise AssertionError("a fault\x1b[2J")
+
+    monkeypatch.setattr(_person, "answered", raising)
+    status, lines = person.run("lookup", "alice")
+    assert (status, len(lines)) == (3, 1) and lines[0]["text"].endswith("AssertionError: a fault\\u{1b}[2J")
+
+
+ESCAPES = "\x1b[2J\u202e\x07\x9b\u2028"
+
+
+def test_escapes(person: Person, directory: Directory, capsys: pytest.CaptureFixture[str], auditors: list[Auditing]) -> None:
+    """Nothing that comes from elsewhere reaches a terminal as it is: status lines, headers, bodies, names, keys, files and errors."""
+    text = ESCAPES.encode()
+    pages: list[Reply] = [Reply(json.dumps({"detail": ESCAPES}).encode(), 500), Reply(text, 500), Reply(b"", 200, {"A": "\x1b[2J"})]
+    shown = list[str]()
+
+    def run(*words: str) -> None:
+        with suppress(SystemExit):
+            contacts.main([words[0], "--state", str(person.state), *words[1:]])
+        captured = capsys.readouterr()
+        shown.append(captured.out + captured.err)
+
+    for page in pages:
+        for path in ("/v1/lookup", "/v1/entries", "/v1/note", "/v1/operations", "/v1/history"):
+            directory.lies[path] = lambda _: page
+            for words in [("lookup", "alice"), ("register", "dave", "key one"), ("watch",), ("compare",)]:
+                run(*words)
+            del directory.lies[path]
+    with dripping(b"HTTP/1.1 \x1b[2J\x07 no status line at all\r\n\r\n") as url:
+        StateFile(person.state).write({**person.stored(), "service": url})
+        run("lookup", "alice")
+    altered: list[dict[str, Any]] = [
+        {"policy": ESCAPES},
+        {"service": f"http://{ESCAPES}"},
+        {"auditors": [["http://x", ESCAPES]]},
+        {"chain": ESCAPES},
+    ]
+    for members in altered:
+        StateFile(person.state).write({**person.stored(), **members})
+        run("lookup", "alice")
+    found = [{"kind": "changed", "evidence": [ESCAPES], "name": ESCAPES}]
+    StateFile(person.state).write(
+        {**person.stored(), "policy": bytes(POLICY).decode(), "auditors": [], "chain": "", "found": found}
+    )
+    run("evidence")
+    run("lookup", ESCAPES)
+    run("set", "--state", str(person.room / ESCAPES), "--service", directory.url)
+    run(ESCAPES)
+    run("lookup", "alice", ESCAPES)
+    assert len(shown) > 60 and any("\\u{1b}[2J" in it for it in shown)
+    assert not [it for it in shown if not it.replace("\n", "").isprintable()]
+
+
 # The state.
 
 
@@ -500,7 +708,8 @@ def test_interrupted_at_each_step(person: Person, directory: Directory, monkeypa
         steps = 0
         while interrupted(person, ["register", "dave", key], steps, monkeypatch):
             steps += 1
-        assert steps > 5 and person.run("register", "dave", key)[0] == 0
+        ran = person.run("register", "dave", key)
+        assert steps > 5 and ran[0] == 0, ran
         status, lines = person.run("watch")
         assert status == 0 and lines[0]["key"] == key
     record = vouched.record_of(directory.world.epochs[directory.latest].names[client_world.index("dave")][2])
@@ -525,7 +734,7 @@ def interrupted(person: Person, words: list[str], at: int, monkeypatch: pytest.M
         return made
 
     with monkeypatch.context() as patch:
-        for module, name in [(contacts, "answered"), (_http, "answered"), (os, "fsync"), (os, "replace")]:
+        for module, name in [(_person, "answered"), (_http, "answered"), (os, "fsync"), (os, "replace")]:
             patch.setattr(module, name, counted(getattr(module, name)))
         try:
             contacts.main([words[0], "--state", str(person.state), "--json", *words[1:]])
@@ -558,7 +767,8 @@ def test_interrupt(person: Person, monkeypatch: pytest.MonkeyPatch) -> None:
     def raising(*_: object) -> None:
         raise KeyboardInterrupt
 
-    monkeypatch.setattr(contacts, "answered", raising)
+    monkeypatch.setattr(_http, "answered", raising)
+    monkeypatch.setattr(_person, "answered", raising)
     assert person.run("lookup", "alice")[0] == 130
 
 
@@ -579,11 +789,14 @@ def test_missing_epochs(person: Person, directory: Directory) -> None:
     """Epochs without a proof are told, and looked at again."""
     person.run("register", "dave", "key one")
     directory.commit(4)
+    directory.commit(5)
     directory.lies["/v1/history"] = lambda query: Reply(directory.world.history("dave"))
     status, lines = person.run("watch")
-    assert status == 3 and lines[0]["missing"] == [4] and "epoch 4" in lines[0]["text"]
+    assert status == 3 and lines[0]["epochs"] == [5] and lines[1]["missing"] == [4] and "epoch 4" in lines[1]["text"]
+    status, lines = person.run("register", "dave", "key two")
+    assert status == 3 and "epoch 4 must be verified" in lines[0]["text"] and len(directory.operations) == 1
     del directory.lies["/v1/history"]
-    assert person.run("watch")[1][0]["epochs"] == [4]
+    assert person.run("watch")[1][0]["epochs"] == [4, 5]
 
 
 def test_lost_epochs(tmp_path: Path, capsys: pytest.CaptureFixture[str], clock: Clock) -> None:
@@ -602,8 +815,8 @@ def test_lost_epochs(tmp_path: Path, capsys: pytest.CaptureFixture[str], clock: 
         directory.lies["/v1/history"] = lambda query: Reply(directory.world.history("dave", 7, 8))
         clock.seconds = hour(9)
         status, lines = it.run("watch")
-        assert status == 3 and '"dave": epochs 3 to 6 can no longer be verified' in [it["text"] for it in lines]
-        assert lines[0]["missing"] == [3, 4, 5, 6]
+        assert status == 3 and lines[0]["text"] == '"dave": epochs 3 to 6 can no longer be verified'
+        assert lines[1]["epochs"] == [7, 8] and it.run("watch")[0] == 0, "the rest goes on"
 
 
 # Auditors.
@@ -638,10 +851,9 @@ def test_quorum(tmp_path: Path, capsys: pytest.CaptureFixture[str], directory: D
     assert it.run("compare")[1][-1]["text"] == "4 of your 4 auditors confirm this chain up to epoch 2"
     auditors[0].note = b""
     assert it.run("compare")[0] == 0
-    late = hour(2, -3 * 3600)
     spoiled: list[Callable[[Auditing], None]] = [
-        lambda a: a.sign(2, late),
-        lambda a: a.sign(2, link=bytes(32)),
+        lambda a: a.sign(2, hour(2, -3 * 3600)),
+        lambda a: a.sign(2, hour(5)),
         lambda a: setattr(a, "note", auditors[2].note),
     ]
     for spoil in spoiled:
@@ -650,6 +862,102 @@ def test_quorum(tmp_path: Path, capsys: pytest.CaptureFixture[str], directory: D
             status, lines = it.run(*words)
             assert status == 3 and (lines[-1]["agreeing"], lines[-1]["needed"]) == (2, 3), (words, lines)
     assert not it.stored()["found"]
+
+
+def test_another_link(tmp_path: Path, capsys: pytest.CaptureFixture[str], directory: Directory, auditors: list[Auditing]) -> None:
+    """An auditor with another link for an epoch is an alarm, also if it shows no entries, and if the others are a quorum."""
+    it = Person(tmp_path, capsys)
+    it.begin(directory, *[a.pair for a in auditors[:3]])
+    auditors[2].sign(2, link=bytes(32))
+    auditors[2].lies["/v1/entries"] = lambda _: Reply(b"", 503)
+    status, lines = it.run("lookup", "alice")
+    assert status == 1 and "three has cosigned another chain, at epoch 2" in lines[0]["text"]
+    assert [(found["kind"], bytes.fromhex(found["evidence"][0])) for found in it.stored()["found"]] == [("head", auditors[2].note)]
+
+
+def test_another_key_of_an_auditor(
+    tmp_path: Path, capsys: pytest.CaptureFixture[str], directory: Directory, auditors: list[Auditing]
+) -> None:
+    """An auditor that signs with another key than the one that was named is told as that."""
+    it = Person(tmp_path, capsys)
+    it.begin(directory, auditors[0].pair, (auditors[1].url, str(Auditor("two", bytes(KEYS["three"].verify_key)))))
+    status, lines = it.run("compare")
+    assert status == 3 and "two signs with another key" in lines[0]["text"]
+
+
+def test_unconfirmed_epochs(
+    tmp_path: Path, capsys: pytest.CaptureFixture[str], directory: Directory, auditors: list[Auditing], clock: Clock
+) -> None:
+    """A contact's key is that of the latest epoch which a quorum confirms. If that is old, nothing new is relied on."""
+    it = Person(tmp_path, capsys)
+    it.begin(directory, auditors[0].pair, auditors[1].pair)
+    directory.note = auditors[0].note
+    directory.commit(3, alice=b"key of mallory")
+    directory.commit(4)
+    for seconds, status in [(hour(4), 0), (hour(5, 3599), 0), (hour(6, 1), 3)]:
+        clock.seconds = seconds
+        for a in auditors[:2]:
+            a.sign(2, seconds)
+        found, lines = it.run("lookup", "alice")
+        assert found == status, lines
+        if status:
+            directory.lies["/v1/lookup"] = lambda _: Reply(b"", 503)
+            assert "rely on nothing new" in lines[-1]["text"] and not any("key of alice" in line["text"] for line in lines)
+        else:
+            assert (lines[0]["key"], lines[0]["epoch"]) == ("key of alice", 2)
+    seen = it.stored()["seen"]["alice"]
+    assert bytes.fromhex(seen["value"]) == b"key of alice", "an unconfirmed key is not accepted"
+
+
+def test_heads_of_their_own(
+    tmp_path: Path, capsys: pytest.CaptureFixture[str], directory: Directory, auditors: list[Auditing], clock: Clock
+) -> None:
+    """An auditor confirms each epoch up to its own head, also if the heads differ. A key isn't taken from an earlier epoch than before."""
+    it = Person(tmp_path, capsys)
+    it.begin(directory, *[a.pair for a in auditors], faulty=1)
+    directory.commit(3, alice=b"second key of alice")
+    clock.latest = lambda: 3
+    for a, epoch in zip(auditors, [3, 3, 3, 2]):
+        a.commit(3, alice=b"second key of alice")
+        a.sign(epoch, hour(3))
+    assert [line["epoch"] for line in it.run("lookup", "alice")[1] if "key" in line] == [3]
+    for a in auditors[:2]:
+        a.sign(2, hour(3))
+    status, lines = it.run("lookup", "alice")
+    assert (status, lines[0]["epoch"], lines[0]["change"]) == (0, 3, "same") and lines[1]["agreed"] == 2
+
+
+def test_without_auditors(person: Person) -> None:
+    """Nothing is status 0 for someone who has neither auditors nor chosen to do without them."""
+    assert person.run("lookup", "alice")[0] == 0
+    StateFile(person.state).write({**person.stored(), "alone": False})
+    for words in [("lookup", "alice"), ("verify", "alice", "key of alice"), ("compare",)]:
+        status, lines = person.run(*words)
+        assert status == 3 and "no auditor is named" in lines[-1]["text"]
+    assert person.run("set", "--without-auditors")[0] == 0 and person.run("lookup", "alice")[0] == 0
+
+
+def test_set(tmp_path: Path, capsys: pytest.CaptureFixture[str], directory: Directory, auditors: list[Auditing]) -> None:
+    """Service, token and auditors are changed, and secret keys stay."""
+    it = Person(tmp_path, capsys)
+    it.begin(directory, auditors[0].pair, auditors[1].pair)
+    it.run("register", "dave", "key one")
+    secret = it.stored()["own"]["dave"]["secret"]
+    (tmp_path / "other").write_text("another token\n")
+    words = ["--service", f"{directory.url}/", "--token", str(tmp_path / "other"), "--faulty", "1"]
+    assert it.run("set", *words)[0] == 3, "one of two may not lie"
+    assert it.run("set", *words, *[word for a in auditors[2:] for word in ("--add-auditor", *a.pair)])[0] == 0
+    stored = it.stored()
+    assert (stored["service"], stored["token"], stored["faulty"]) == (directory.url, "another token", 1)
+    assert [url for url, _ in stored["auditors"]] == [a.url for a in auditors] and it.run("watch")[0] == 0
+    for wrong in [["--remove-auditor", "http://127.0.0.1:1"], [*(["--remove-auditor", auditors[0].url])], ["--unwatch", "erin"]]:
+        assert it.run("set", *wrong)[0] == 3 and it.stored() == {**it.stored(), "auditors": stored["auditors"]}
+    removed = [word for a in auditors for word in ("--remove-auditor", a.url)]
+    assert it.run("set", *removed, "--faulty", "0")[0] == 3
+    assert it.run("set", *removed, "--faulty", "0", "--without-auditors")[0] == 0 and it.run("watch")[0] == 0
+    assert it.run("set", "--unwatch", "dave")[0] == 0 and it.run("watch")[0] == 3
+    assert it.run("register", "dave", "key one")[0] == 0 and it.stored()["own"]["dave"]["secret"] == secret
+    assert len(directory.operations) == 1
 
 
 def test_lagging_auditors(
@@ -678,7 +986,9 @@ def test_auditor_of_another_chain(
     auditors[1].world = FORKS[fork]
     auditors[1].sign(max(FORKS[fork].epochs))
     status, lines = it.run("lookup", "alice")
-    assert status == 1 and lines[0]["key"] == "key of alice" and convicted(it) == ["overlap"]
+    assert status == 1 and convicted(it) == ["overlap"]
+    assert ["key of alice"] == [line["key"] for line in lines if "key" in line] and "too few of your auditors" in lines[1]["text"]
+    assert not it.stored()["seen"], "it isn't relied on"
 
 
 def test_hidden_epochs(tmp_path: Path, capsys: pytest.CaptureFixture[str], directory: Directory, auditors: list[Auditing]) -> None:
@@ -691,37 +1001,47 @@ def test_hidden_epochs(tmp_path: Path, capsys: pytest.CaptureFixture[str], direc
     assert it.run("lookup", "alice")[0] == 3 and not it.stored()["found"]
 
 
-def test_stapled(tmp_path: Path, capsys: pytest.CaptureFixture[str], directory: Directory, auditors: list[Auditing]) -> None:
-    """The note of a reply spares the auditors, if a quorum cosigned it lately and it is of this chain."""
+def test_carried(tmp_path: Path, capsys: pytest.CaptureFixture[str], directory: Directory, auditors: list[Auditing]) -> None:
+    """The note of the service spares the auditors, if a quorum cosigned it lately and it is of this chain."""
     it = Person(tmp_path, capsys)
     it.begin(directory, *[a.pair for a in auditors], faulty=1)
 
-    def stapled(*names: str, seconds: int = NOW, link: bytes = WORLD.link(2)) -> None:
+    def carried(*names: str, seconds: int = NOW, link: bytes = WORLD.link(2)) -> None:
         text = text_of(POLICY, Head(2, link))
-        note = Note(text, tuple(cosign(name, KEYS[name], text, seconds) for name in names))
-        directory.headers["Coniks-Note"] = base64.b64encode(bytes(note)).decode()
+        directory.note = bytes(Note(text, tuple(cosign(name, KEYS[name], text, seconds) for name in names)))
 
     def asked() -> bool:
         count = sum(len(a.asked) for a in auditors)
         assert it.run("lookup", "alice")[0] == 0
         return sum(len(a.asked) for a in auditors) > count
 
-    stapled("one", "two", "three")
+    carried("one", "two", "three")
     assert not asked()
     for names, more in [(("one", "two"), {}), (("one", "one", "two"), {}), (("one", "two", "three"), {"seconds": NOW - 4 * 3600})]:
-        stapled(*names, **more)  # type: ignore[arg-type]
+        carried(*names, **more)  # type: ignore[arg-type]
         assert asked(), names
-    stapled("one", "two", "three", link=bytes(32))
+    carried("one", "two", "three", seconds=NOW + 3600)
+    assert asked(), "a time that is yet to come"
+    carried("one", "two", "three", link=bytes(32))
     assert asked()
-    for text in ["", "!", "eA==", "x" * 3000]:
-        directory.headers["Coniks-Note"] = text
-        assert asked(), text
+    carried("one", "two", "three")
+    for epoch in (3, 4):
+        directory.commit(epoch)
+        for a in auditors:
+            a.commit(epoch)
+            a.sign(epoch)
+        assert asked() is (epoch == 4), "a note of two epochs ago, which a service that forks may carry"
+    for note in [b"", b"!", b"x" * 3000, b"\xff", bytes(1 << 17)]:
+        directory.note = note
+        assert asked(), "the auditors are asked, and nothing ends by it"
 
 
-def test_no_auditor_twice(tmp_path: Path, capsys: pytest.CaptureFixture[str]) -> None:
-    with pytest.raises(SystemExit) as ended:
-        contacts.main(["begin", "--service", "http://x", "--policy", "x", "--auditor", "http://x", str(AUDITORS["one"])])
-    assert ended.value.code == 2 and "at least two" in capsys.readouterr().err
+def test_begun_without_two_auditors(tmp_path: Path, capsys: pytest.CaptureFixture[str]) -> None:
+    auditors: list[list[str]] = [[], ["--auditor", "http://x", str(AUDITORS["one"])]]
+    for words in auditors:
+        with pytest.raises(SystemExit) as ended:
+            contacts.main(["begin", "--service", "http://x", "--policy", "x", *words])
+        assert ended.value.code == 2 and "at least two" in capsys.readouterr().err
 
 
 def test_two_under_way(person: Person, directory: Directory) -> None:
@@ -730,9 +1050,10 @@ def test_two_under_way(person: Person, directory: Directory) -> None:
     person.run("register", "dave", "key one")
     directory.refusal = "no"
     assert person.run("register", "erin", "key two")[0] == 3
-    assert set(person.stored()["own"]) == {"dave"} and person.stored()["own"]["dave"]["next"]
+    assert all(person.stored()["own"][name]["next"] for name in ("dave", "erin"))
     directory.commit(3, dave=base64.b64decode(directory.operations[0]["key"]))
-    assert person.run("watch")[0] == 0
+    status, lines = person.run("watch")
+    assert status == 3 and [it["name"] for it in lines[:2]] == ["dave", "erin"] and lines[0]["status"] == 0
 
 
 def test_unusual_outputs(person: Person, monkeypatch: pytest.MonkeyPatch, clock: Clock) -> None:

@@ -1,0 +1,148 @@
+"""What a run of `coniks-client` has: the state, the service, and the chain."""
+
+from __future__ import annotations
+
+import base64
+import json
+from contextlib import suppress
+from typing import Any, Callable, Optional
+from urllib.parse import quote
+
+from . import Policy
+from ._client_state import StateFile
+from ._http import Answer, Unusable, answered, new_entries
+from ._telling import ALARM, UNVERIFIED, Telling
+from .client import Client, Found, Refusal
+from .notes import Auditor, BadNote
+from .vouching import Change, Place, Record, convicts, judged
+
+# The most bytes of a reply, and the most requests for one while epochs pass.
+REPLY, TRIES = 1 << 15, 5
+
+
+class Alarm(Exception):
+    """Something that the user must see, with what is kept of it: its kind and its parts."""
+
+    def __init__(self, text: str, kind: str, *parts: bytes):
+        self.kind, self.parts = kind, parts
+        super().__init__(text)
+
+
+class Person:
+    """The members of a state, and a client of the library for the chain."""
+
+    def __init__(self, file: StateFile, members: dict[str, Any], tell: Telling):
+        self._file, self.tell = file, tell
+        self.state: dict[str, Any] = {"past": {}, "alone": False, **members}
+        try:
+            self.policy = Policy.read(members["policy"].encode())
+            tell.origin = self.policy.origin
+            self.auditors = {url: Auditor.read(key) for url, key in members["auditors"]}
+            self.chain = self.opened(members["chain"])
+        except (KeyError, TypeError, ValueError, AttributeError, Refusal) as error:
+            raise Unusable(f"{file.path} was changed: {error}") from error
+
+    def opened(self, state: str = "") -> Client:
+        """A client of a state in hexadecimal digits."""
+        keys = self.policy.signing_key, self.policy.vrf_key
+        return Client(*keys, self.policy, bytes.fromhex(state) if state else None)
+
+    def place(self, name: str) -> Place:
+        return Place(self.policy.digest, name)
+
+    def save(self) -> None:
+        """Stores the state, once it has an entry: a directory that was never reached leaves none."""
+        self.state["chain"] = self.chain.state.hex()
+        if self.chain.head():
+            self._file.write(self.state)
+
+    def keep(self, kind: str, *parts: bytes, **members: str) -> None:
+        """Keeps what convicts the directory, or what the user must see: the first of each kind, and for each name."""
+        if not any((it["kind"], it.get("name")) == (kind, members.get("name")) for it in self.state["found"]):
+            self.state["found"].append({"kind": kind, "evidence": [it.hex() for it in parts], **members})
+        self.save()
+
+    def tried(self, call: Callable[[], None], status: int = UNVERIFIED) -> bool:
+        """Makes a call, and tells what ends it, with this status unless it is an alarm. Returns whether nothing did."""
+        try:
+            call()
+        except Refusal as error:
+            if error.evidence:
+                self.keep("entries", error.evidence.mine, error.evidence.other, why=error.evidence.kind.name.lower())
+            self.tell(str(error), ALARM if error.evidence else status, cause=error.cause.name)
+        except Alarm as error:
+            self.keep(error.kind, *error.parts)
+            self.tell(str(error), ALARM)
+        except (Unusable, BadNote) as error:
+            self.tell(str(error), status)
+        else:
+            return True
+        return False
+
+    # The service.
+
+    def ask(self, target: str, most: int, operation: Optional[bytes] = None) -> Answer:
+        headers = {"Authorization": f"Bearer {self.state['token']}"} if self.state["token"] else {}
+        if operation:
+            headers |= {"Content-Type": "application/json", "Prefer": "wait=20"}
+        return answered(self.state["service"] + target, most, operation, headers)
+
+    def got(self, target: str, most: int) -> bytes:
+        found = self.ask(target, most)
+        if found.status != 200:
+            raise Unusable(f"the service refuses {target.partition('?')[0]}: {detail(found)}")
+        return found.body
+
+    def follow(self) -> None:
+        """Takes all entries that the service has."""
+        try:
+            for entry in new_entries(self.chain, self.state["service"]):
+                self.chain.feed([entry])
+        finally:
+            self.save()
+
+    def look(self, name: str, epoch: Optional[int] = None) -> tuple[Found, bytes]:
+        """What an epoch shows of a name, by default the latest one, with the reply. An epoch that begins meanwhile is taken first."""
+        target = f"/v1/lookup?name={quote(name, safe='')}" + ("" if epoch is None else f"&epoch={epoch}")
+        for _ in range(TRIES):
+            reply = self.got(target, REPLY)
+            with suppress(Refusal):
+                return self.chain.lookup(name, reply, epoch), reply
+            self.follow()
+        return self.chain.lookup(name, reply, epoch), reply
+
+    # The keys that were seen.
+
+    def judge(self, name: str, value: Optional[bytes], reply: bytes) -> Optional[Change]:
+        """What a reply shows to those who have accepted an earlier one, None if this client has accepted none. Keeps what convicts."""
+        seen = self.state["seen"].get(name)
+        if seen is None:
+            return None
+        change = judged(self.place(name), bytes.fromhex(seen["value"]), value)
+        if change is Change.UNVOUCHED and convicts(self.policy, name, bytes.fromhex(seen["reply"]), reply):
+            self.keep("unvouched", bytes.fromhex(seen["reply"]), reply, name=name)
+        return change
+
+    def accept(self, name: str, value: bytes, reply: bytes, is_verified: bool) -> None:
+        self.state["seen"][name] = {"value": value.hex(), "reply": reply.hex(), "verified": is_verified}
+        self.save()
+
+
+def bare(value: bytes) -> bytes:
+    """The owner's key in a name's bytes."""
+    record = Record.read(value)
+    return record.key if record else value
+
+
+def key_text(value: bytes) -> str:
+    """The owner's key in a name's bytes, as text if that is printable ASCII without quotation marks, else in base64."""
+    key, text = bare(value), bare(value).decode("latin-1")
+    is_text = text.isascii() and text.isprintable() and not set(text) & {'"', "\\"} and not text.startswith("base64:")
+    return text if is_text else f"base64:{base64.b64encode(key).decode()}"
+
+
+def detail(found: Answer) -> str:
+    """What a service says of an error."""
+    with suppress(ValueError, TypeError, KeyError, RecursionError):
+        return str(json.loads(found.body)["detail"])[:200]
+    return f"status {found.status}"
