@@ -95,7 +95,7 @@ OF_CLIENTS = [
 OF_SIDES = ["include/coniks.h", "embed/texts.json", "embed/sample", "embed/proof_bytes.py"]
 OF_SIDES += [f"embed/tests/{it}.py" for it in ("conftest", "messages", "model", "running", "samples", "sides")]
 
-OF_CONTACTS = package("contacts", "_person", "_own_names", "_confirming", "_telling", "commands")
+OF_CONTACTS = package("contacts", "_person", "_own_names", "_confirming", "_telling", "commands", "trust")
 
 PYTHON = [
     Part(
@@ -232,7 +232,7 @@ PYTHON = [
             *tests("contacts", "*"),
             "embed/python/bin/coniks-client",
         ],
-        tests("contacts", "test_contacts"),
+        tests("contacts", "test_contacts", "test_trust"),
         library=True,
     ),
     Part(
@@ -265,6 +265,7 @@ SERVICE = [
         "attacks": "",
         "audit": "audit notes",
         "clients": "contacts _person _own_names _confirming vouching names",
+        "records": "vouching",
         "operation": "log guard",
         "load": "",
     }.items()

@@ -1,4 +1,5 @@
-"""Collects operations, and commits them each epoch. Whoever asked gets a receipt once the log has the epoch, and not before."""
+"""Collects operations, and commits them each epoch. Whoever asked gets a receipt once the log has the epoch, and not before. Each
+operation is judged by the key that its name has at the epoch before its own."""
 
 from __future__ import annotations
 
@@ -7,11 +8,12 @@ import base64
 import secrets
 from concurrent.futures import ThreadPoolExecutor
 from contextlib import suppress
-from dataclasses import dataclass, field
-from typing import Optional, Sequence, Union
+from dataclasses import dataclass, field, replace
+from typing import Callable, Mapping, Optional, Sequence, TypeVar, Union
 
+from authorising import Authorise, Request
 from coniks.provider import EpochNotLater, EpochNotNow, EpochSpent, Fault, Lookup, Operation, Overtaken
-from coniks.provider import Provider, ProviderError, RestartNeeded
+from coniks.provider import Provider, ProviderError, Register, RestartNeeded
 from holding import LOG, Holder, error_of
 from problems import Problem
 
@@ -19,6 +21,21 @@ from problems import Problem
 MOST = 4096
 # The seconds until the clock is read again, and a commit that failed is tried again.
 _PAUSE = 0.3
+Result = TypeVar("Result")
+
+
+@dataclass(frozen=True)
+class Judged:
+    """An operation, the headers of whoever asks for it, and the name's key at an epoch, by which it is judged; None if it had none."""
+
+    operation: Operation
+    headers: Mapping[str, str]
+    present: Optional[bytes]
+    epoch: int
+
+    def is_allowed(self, authorise: Authorise) -> bool:
+        """Whether it may be done. It is called in a thread."""
+        return authorise(Request(self.operation.name, self.operation, self.present, self.headers))
 
 
 @dataclass(frozen=True)
@@ -26,16 +43,20 @@ class Asked:
     """An operation that was collected. Its outcome is the entry of the epoch that has it, once the log has that, or why it is
     refused."""
 
-    operation: Operation
+    judged: Judged
     outcome: asyncio.Future[Union[bytes, Problem]]
     number: str = field(default_factory=lambda: secrets.token_urlsafe(18))
+
+    @property
+    def operation(self) -> Operation:
+        return self.judged.operation
 
 
 class Collector:
     """The operations by their names, and those that were decided lately. The event loop alone changes them."""
 
-    def __init__(self, holder: Holder):
-        self.holder, self.failures = holder, 0
+    def __init__(self, holder: Holder, authorise: Authorise):
+        self.holder, self.authorise, self.failures = holder, authorise, 0
         # All that are remembered, by their numbers.
         self.asked: dict[str, Asked] = {}
         # Those that wait for an epoch, and the batch of an epoch, while it isn't known whether the log has it.
@@ -50,8 +71,28 @@ class Collector:
     def pending(self) -> int:
         return len(self._waiting) + len(self._batch)
 
-    def collect(self, operation: Operation) -> Asked:
-        """Takes an operation for the next epoch, or returns the one that asks for the same already. Raises `Problem`."""
+    async def take(self, operation: Operation, headers: Mapping[str, str]) -> Asked:
+        """Takes an operation for the next epoch if whoever asks may do it. Raises `Problem`."""
+        judged = await self._judged(operation, headers)
+        # An epoch that was committed meanwhile may have another key of the name.
+        while judged.epoch < self.holder.directory.latest().epoch:
+            judged = await self._judged(operation, headers)
+        return self.collect(judged)
+
+    async def _judged(self, operation: Operation, headers: Mapping[str, str]) -> Judged:
+        """An operation that whoever asks may do, by the name's key of the latest epoch. Raises `Problem`."""
+        shown = await asyncio.to_thread(self.holder.directory.lookup, operation.name)
+        judged = Judged(operation, headers, shown_key(shown), shown.epoch)
+        if not await asyncio.to_thread(judged.is_allowed, self.authorise):
+            raise forbidden()
+        is_taken = judged.present is not None
+        if isinstance(operation, Register) is is_taken:
+            raise Problem(409, "NameTaken" if is_taken else "NameUnknown", f"the name is {'' if is_taken else 'not '}registered")
+        return judged
+
+    def collect(self, judged: Judged) -> Asked:
+        """Takes an operation that is judged, or returns the one that asks for the same already. Raises `Problem`."""
+        operation = judged.operation
         if other := self._waiting.get(operation.name) or self._batch.get(operation.name):
             if (type(operation), operation.key) == (type(other.operation), other.operation.key):
                 return other
@@ -60,7 +101,7 @@ class Collector:
             raise Problem(503, "NoWriter", "this process takes no operations: look the name up, and send it again to the writer")
         if self.pending >= MOST:
             raise Problem(503, "EpochFull", f"{MOST} operations wait for the next epoch: ask again after it", _PAUSE)
-        asked = Asked(operation, asyncio.get_running_loop().create_future())
+        asked = Asked(judged, asyncio.get_running_loop().create_future())
         self._waiting[operation.name] = self.asked[asked.number] = asked
         if len(self.asked) > 4 * MOST:
             del self.asked[next(iter(self.asked))]
@@ -87,8 +128,10 @@ class Collector:
     async def commit(self) -> None:
         """Commits what is collected, if the clock has an epoch that the directory has not. An error leaves the batch for later."""
         try:
-            while (provider := self.holder.provider) and (epoch := self._next(provider)) and await self._refuses(provider, epoch):
-                pass
+            while (provider := self.holder.provider) and (epoch := self._next(provider)):
+                await self._judge(provider, epoch)
+                if not await self._refuses(provider, epoch):
+                    break
             self.failures = 0
         except Overtaken:
             self.is_over = True
@@ -103,12 +146,26 @@ class Collector:
             self._epoch, self._batch, self._waiting = now, self._waiting, {}
         return self._epoch
 
+    def _run(self, call: Callable[..., Result], *arguments: object) -> asyncio.Future[Result]:
+        """Makes a call in the thread that commits."""
+        return asyncio.get_running_loop().run_in_executor(self._thread, call, *arguments)
+
+    async def _judge(self, provider: Provider, epoch: int) -> None:
+        """Judges those of the batch again whose name may have another key since, and refuses those that aren't allowed any more."""
+        latest = provider.latest().epoch
+        old = [it for it in self._batch.values() if it.judged.epoch < latest < epoch]
+        for it, judged in zip(old, await self._run(again, provider, [it.judged for it in old], latest) if old else []):
+            if judged.present == it.judged.present or await self._run(judged.is_allowed, self.authorise):
+                self._batch[it.operation.name] = replace(it, judged=judged)
+            else:
+                self._batch.pop(it.operation.name).outcome.set_result(forbidden())
+
     async def _refuses(self, provider: Provider, epoch: int) -> bool:
         """Tries once to commit the batch, which is over once it is known whether the log has it. Returns whether the program refuses
         one of its operations, so that the others are to be tried again."""
         batch, operations = self._batch, [it.operation for it in self._batch.values()]
         try:
-            entry = await asyncio.get_running_loop().run_in_executor(self._thread, committed, provider, epoch, operations)
+            entry = await self._run(committed, provider, epoch, operations)
         except Fault as fault:
             if fault.position is None:
                 raise
@@ -143,6 +200,19 @@ def committed(provider: Provider, epoch: int, operations: Sequence[Operation]) -
     if latest > epoch or [shown_key(it) for it in shown] != [it.key for it in operations]:
         raise Overtaken("another process committed this epoch, or a later one")
     return provider.chain()[-1]
+
+
+def again(provider: Provider, judged: Sequence[Judged], epoch: int) -> list[Judged]:
+    """The operations with the keys that their names have at an epoch."""
+    shown = provider.lookups([it.operation.name for it in judged], epoch)
+    for it in shown:
+        if isinstance(it, ProviderError):
+            raise it
+    return [replace(it, present=shown_key(its), epoch=epoch) for it, its in zip(judged, shown)]
+
+
+def forbidden() -> Problem:
+    return Problem(403, "Forbidden", "the credentials do not allow this, or the owner of the present key did not sign it")
 
 
 def shown_key(shown: Union[Lookup, ProviderError]) -> Optional[bytes]:

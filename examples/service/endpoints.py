@@ -12,8 +12,8 @@ from typing import Callable
 
 from aiohttp import web
 from aiohttp.typedefs import Handler
-from authorising import Authorise, Request
-from collecting import Asked, Collector, shown_key
+from authorising import Request
+from collecting import Asked, Collector
 from coniks.provider import Change, Fault, Operation, ProviderError, Register, UnknownEpoch
 from coniks.names import BadName
 from connections import LONGEST, Bounds, Connection, Rate
@@ -38,8 +38,8 @@ _FOR_EVER = "max-age=31536000, immutable"
 class Endpoints:
     """The handlers. Each call of the directory that waits is made by a thread, and none of them waits for a commit."""
 
-    def __init__(self, collector: Collector, stapler: Stapler, metrics: Metrics, authorise: Authorise, bounds: Bounds):
-        self._collector, self._stapler, self._metrics, self._authorise = collector, stapler, metrics, authorise
+    def __init__(self, collector: Collector, stapler: Stapler, metrics: Metrics, bounds: Bounds):
+        self._collector, self._stapler, self._metrics = collector, stapler, metrics
         self._holder, self._bounds, self._rate = collector.holder, bounds, Rate(bounds.rate)
         self.app = web.Application(middlewares=[self._around], client_max_size=bounds.body)
         self.app.add_routes(self.routes())
@@ -164,17 +164,11 @@ class Endpoints:
         chain, count = self._holder.directory.chain(), self._bounds.recent
         if len(chain) <= count or epoch >= (oldest := epoch_of(chain[-count])):
             return
-        if not await asyncio.to_thread(self._authorise, Request(name, None, None, request.headers)):
+        if not await asyncio.to_thread(self._collector.authorise, Request(name, None, None, request.headers)):
             raise Problem(403, "OldEpoch", f"only the owner of a name may see it before epoch {oldest}")
 
     async def operate(self, request: web.Request) -> web.Response:
-        operation = await operation_of(request)
-        present = shown_key(await asyncio.to_thread(self._holder.directory.lookup, operation.name))
-        if not await asyncio.to_thread(self._authorise, Request(operation.name, operation, present, request.headers)):
-            raise Problem(403, "Forbidden", "the credentials do not allow this, or the owner of the present key did not sign it")
-        if isinstance(operation, Register) is not (present is None):
-            raise Problem(409, "NameTaken" if present else "NameUnknown", f"the name is {'' if present else 'not '}registered")
-        return await told(request, self._collector.collect(operation))
+        return await told(request, await self._collector.take(await operation_of(request), request.headers))
 
     async def outcome(self, request: web.Request) -> web.Response:
         asked = self._collector.asked.get(request.match_info["number"])

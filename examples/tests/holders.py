@@ -7,6 +7,7 @@ from contextlib import contextmanager
 from pathlib import Path
 from typing import Any, Iterator, Sequence
 
+from collecting import Collector, Judged
 from coniks.provider import Operation
 from holding import Holder, Keys, Places, make_keys
 
@@ -22,3 +23,13 @@ def made(program: str, room: Path, period: int = 1000, operations: Sequence[Oper
         yield holder
     finally:
         holder.close()
+
+
+def collector_of(holder: Any) -> Collector:
+    """A collector that allows everything."""
+    return Collector(holder, lambda _: True)
+
+
+def judged(operation: Operation) -> Judged:
+    """An operation on a name that had no key at epoch 1."""
+    return Judged(operation, {}, None, 1)

@@ -24,8 +24,8 @@ import collecting
 import ecvrf
 from coniks import provider
 from coniks.provider import Change, LogRefused, Operation, Overtaken, Register
-from collecting import Asked, Collector, committed
-from holders import made
+from collecting import Asked, committed
+from holders import collector_of, judged, made
 from problems import Problem
 from services import PYTHON, Running, named, until
 
@@ -219,16 +219,16 @@ def test_refused_append(program: str, tmp_path: Path, monkeypatch: pytest.Monkey
 def test_failed_signer(program: str, tmp_path: Path, monkeypatch: pytest.MonkeyPatch) -> None:
     """Who asked has no receipt until the signer is back, and then one for the same epoch, also if the clock has gone on."""
     with made(program, tmp_path) as holder:
-        collector = Collector(holder)
+        collector = collector_of(holder)
         fail_once(monkeypatch, holder.keys._signer, "sign", OSError("away"))
 
         async def story() -> None:
-            asked = collector.collect(Register("alice", b"key"))
+            asked = collector.collect(judged(Register("alice", b"key")))
             await collector.commit()
             assert not asked.outcome.done() and collector.failures == 1 and holder.provider.pending
             with pytest.raises(Problem):
-                collector.collect(Register("alice", b"other"))
-            second = collector.collect(Register("bob", b"key"))
+                collector.collect(judged(Register("alice", b"other")))
+            second = collector.collect(judged(Register("bob", b"key")))
             epoch = holder.provider.pending.epoch
             monkeypatch.setattr(type(holder.provider), "epoch_now", lambda self: epoch + 7)
             await collector.commit()
@@ -242,7 +242,7 @@ def test_failed_signer(program: str, tmp_path: Path, monkeypatch: pytest.MonkeyP
 def test_refused_operations(program: str, tmp_path: Path) -> None:
     """An operation that the program refuses doesn't keep the others from their epoch."""
     with made(program, tmp_path, operations=[Register("bob", b"key")]) as holder:
-        collector = Collector(holder)
+        collector = collector_of(holder)
 
         async def story() -> list[Any]:
             operations: list[Operation] = [
@@ -251,7 +251,7 @@ def test_refused_operations(program: str, tmp_path: Path) -> None:
                 Change("carol", b"3"),
                 Register("dave", b"4"),
             ]
-            asked = [collector.collect(it) for it in operations]
+            asked = [collector.collect(judged(it)) for it in operations]
             await collector.commit()
             return [it.outcome.result() for it in asked]
 
@@ -266,13 +266,13 @@ def test_full_epoch(program: str, tmp_path: Path, monkeypatch: pytest.MonkeyPatc
     assert collecting.MOST == 4096
     monkeypatch.setattr(collecting, "MOST", 64)
     with made(program, tmp_path) as holder:
-        collector = Collector(holder)
+        collector = collector_of(holder)
 
         async def story() -> None:
             for number in range(64):
-                collector.collect(Register(f"name{number}", b"key"))
+                collector.collect(judged(Register(f"name{number}", b"key")))
             with pytest.raises(Problem, match="64 operations wait"):
-                collector.collect(Register("one more", b"key"))
+                collector.collect(judged(Register("one more", b"key")))
             await collector.stop()
 
         asyncio.run(story())
@@ -282,7 +282,7 @@ def test_full_epoch(program: str, tmp_path: Path, monkeypatch: pytest.MonkeyPatc
 def test_end_amid_a_commit(program: str, tmp_path: Path, monkeypatch: pytest.MonkeyPatch) -> None:
     """A commit whose task is cancelled goes on in its thread, and who waits has the receipt all the same."""
     with made(program, tmp_path) as holder:
-        collector, sign = Collector(holder), holder.keys._signer.sign
+        collector, sign = collector_of(holder), holder.keys._signer.sign
         is_asked, may_sign = threading.Event(), threading.Event()
 
         def slowly(body: bytes) -> Any:
@@ -292,7 +292,7 @@ def test_end_amid_a_commit(program: str, tmp_path: Path, monkeypatch: pytest.Mon
 
         async def story() -> Any:
             monkeypatch.setattr(holder.keys._signer, "sign", slowly)
-            asked = collector.collect(Register("alice", b"key"))
+            asked = collector.collect(judged(Register("alice", b"key")))
             committing = asyncio.create_task(collector.commit())
             await asyncio.to_thread(is_asked.wait, 60)
             committing.cancel()
@@ -318,15 +318,15 @@ def test_another_writer(program: str, tmp_path: Path) -> None:
 def test_overtaken(program: str, tmp_path: Path, monkeypatch: pytest.MonkeyPatch) -> None:
     """A writer that is overtaken commits nothing more, and refuses who waits."""
     with made(program, tmp_path) as holder:
-        collector, epoch = Collector(holder), holder.provider.latest().epoch
+        collector, epoch = collector_of(holder), holder.provider.latest().epoch
 
         async def story() -> Any:
             fail_once(monkeypatch, type(holder.provider), "commit", Overtaken("planted"))
-            asked = collector.collect(Register("alice", b"key"))
+            asked = collector.collect(judged(Register("alice", b"key")))
             with pytest.raises(Overtaken):
                 await collector.run()
             with pytest.raises(Problem, match="the writer"):
-                collector.collect(Register("bob", b"key"))
+                collector.collect(judged(Register("bob", b"key")))
             await collector.stop()
             return asked.outcome.result()
 

@@ -151,7 +151,7 @@ def test_description(service: Running) -> None:
     from endpoints import Endpoints
 
     nothing: Any = Mock()
-    listing = Endpoints(nothing, nothing, nothing, nothing, Bounds()).routes()
+    listing = Endpoints(nothing, nothing, nothing, Bounds()).routes()
     routes = {(it.method.lower(), it.path.replace("{number}", "{operation}")) for it in listing}
     listed = {(method, path) for path, it in OPENAPI["paths"].items() for method in it}
     assert routes == listed
@@ -228,7 +228,7 @@ def test_pages(packages: None, program: str, tmp_path: Path, monkeypatch: pytest
         for epoch in range(3, 13):
             holder.provider.commit(epoch, [], force=True)
         nothing: Any = Mock(holder=holder)
-        served, got = endpoints.Endpoints(nothing, nothing, nothing, nothing, Bounds()), b""
+        served, got = endpoints.Endpoints(nothing, nothing, nothing, Bounds()), b""
         while True:
             after = int.from_bytes(got[-208:-200], "big")
             request = make_mocked_request("GET", "/v1/entries")
