@@ -1,9 +1,9 @@
 # Completion of coniks-client for bash. scripts/install puts it where bash-completion finds it.
 _coniks_client() {
     local word=${COMP_WORDS[COMP_CWORD]} before=${COMP_WORDS[COMP_CWORD - 1]} words
-    local commands="begin register lookup verify watch compare evidence set"
+    local commands="begin register lookup verify watch compare evidence trust set"
     case $before in
-    --state | --policy | --token)
+    --state | --policy | --token | --trust)
         mapfile -t COMPREPLY < <(compgen -f -- "$word")
         return
         ;;
@@ -14,8 +14,8 @@ _coniks_client() {
     else
         words="--state --json --help --version"
         case ${COMP_WORDS[1]} in
-        begin) words="$words --service --policy --auditor --faulty --token --without-auditors" ;;
-        set) words="$words --service --token --add-auditor --remove-auditor --faulty --without-auditors --unwatch" ;;
+        begin) words="$words --service --policy --auditor --faulty --trust --token --without-auditors" ;;
+        set) words="$words --service --token --add-auditor --remove-auditor --faulty --trust --without-auditors --unwatch" ;;
         esac
     fi
     mapfile -t COMPREPLY < <(compgen -W "$words" -- "$word")

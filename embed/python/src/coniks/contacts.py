@@ -33,7 +33,8 @@ from ._own_names import OwnNames
 from ._person import Person, bare, key_text
 from ._telling import ABSENT, ALARM, UNVERIFIED, Telling, printable
 from .names import BadName, canonical, shown
-from .notes import Auditor, BadNote, Note, is_agreed
+from .notes import Auditor, BadNote
+from .trust import Trust
 from .vouching import Change
 
 __all__ = ["main"]
@@ -48,6 +49,7 @@ _COMMANDS = {
     "watch": "verify that your names have your keys at each epoch",
     "compare": "compare the chain with the heads of your auditors",
     "evidence": "print what convicts the directory",
+    "trust": "tell the fingerprint of your auditors, and write their trust document",
     "set": "change the service, the token or the auditors, or watch a name no more",
 }
 _KINDS = {
@@ -80,7 +82,20 @@ class Commands:
     def compare(self) -> None:
         self._ended(self._begun())
 
-    begin = compare
+    def begin(self) -> None:
+        self.compare()
+        self.trust()
+
+    def trust(self, file: Optional[Path] = None) -> None:
+        """Tells the fingerprint of the auditors, and writes their trust document."""
+        person = self._person
+        if not person.auditors:
+            return person.tell("no auditor is named, so there is nothing that two people could compare", UNVERIFIED if file else 0)
+        trust = Trust(person.policy.digest, tuple(person.auditors.values()), person.state["faulty"])
+        if file:
+            file.write_bytes(bytes(trust))
+        text = "whoever has the same one lets the same auditors confirm this directory"
+        person.tell(f"your trust document has the fingerprint {trust.fingerprint}: {text}", fingerprint=trust.fingerprint)
 
     def register(self, name: str, key: bytes) -> None:
         self._person.follow()
@@ -150,10 +165,9 @@ class Commands:
         auditors = [it for it in state["auditors"] if it[0] not in given.remove_auditor]
         if len(auditors) + len(given.remove_auditor) > len(state["auditors"]):
             raise Unusable("no auditor has this URL: give one of " + ", ".join(url for url, _ in state["auditors"]))
-        auditors += given.add_auditor
-        faulty = state["faulty"] if given.faulty is None else given.faulty
+        auditors, faulty = trusted(given, person.policy, auditors + given.auditor, state["faulty"])
         is_alone = not auditors and (given.without_auditors or state["alone"])
-        check_auditors(auditors, faulty, is_alone)
+        check_auditors(person.policy, auditors, faulty, is_alone)
         for name in given.unwatch:
             if name not in self._own.names:
                 raise Unusable(f"{shown(name)} is not watched")
@@ -179,7 +193,24 @@ def token_of(path: Optional[Path]) -> str:
     return path.read_text().strip() if path else ""
 
 
-def check_auditors(auditors: Sequence[Sequence[str]], faulty: int, is_alone: bool) -> None:
+def trusted(given: argparse.Namespace, policy: Policy, named: list[list[str]], faulty: int) -> tuple[list[list[str]], int]:
+    """The auditors with their URLs, and how many may lie: those of a trust document if one is given, else those that are named. An auditor
+    of the document whose URL isn't named has its name as host."""
+    faulty = faulty if given.faulty is None else given.faulty
+    if given.trust is None:
+        return named, faulty
+    try:
+        trust, urls = Trust.read(given.trust.read_bytes()), {key: url for url, key in named}
+    except ValueError as error:
+        raise Unusable(str(error)) from error
+    if trust.policy != policy.digest:
+        raise Unusable("the trust document is for another policy: take both from one place")
+    if {key for _, key in given.auditor} - set(map(str, trust.auditors)):
+        raise Unusable("an auditor that you named isn't in the trust document")
+    return [[urls.get(str(it), f"https://{it.name}"), str(it)] for it in trust.auditors], trust.faulty
+
+
+def check_auditors(policy: Policy, auditors: Sequence[Sequence[str]], faulty: int, is_alone: bool) -> None:
     """Raises `Unusable` for auditors of whom no quorum can be formed."""
     try:
         if len({url_of(url) for url, _ in auditors}) < len(auditors):
@@ -187,7 +218,7 @@ def check_auditors(auditors: Sequence[Sequence[str]], faulty: int, is_alone: boo
         if len(auditors) == 1 or not (auditors or is_alone):
             raise BadNote("name at least two auditors, or give --without-auditors: then nobody notices another chain")
         if auditors:
-            is_agreed(Note("", ()), [Auditor.read(key) for _, key in auditors], faulty, 0)
+            Trust(policy.digest, tuple(Auditor.read(key) for _, key in auditors), faulty)
     except (ValueError, argparse.ArgumentTypeError) as error:
         raise Unusable(str(error)) from error
 
@@ -200,8 +231,9 @@ def begun(file: StateFile, given: argparse.Namespace) -> dict[str, Any]:
         policy, token = Policy.read(given.policy.read_bytes()), token_of(given.token)
     except ValueError as error:
         raise Unusable(str(error)) from error
-    check_auditors(given.auditor, given.faulty, given.without_auditors)
-    members = {"service": given.service, "auditors": given.auditor, "faulty": given.faulty, "alone": given.without_auditors}
+    auditors, faulty = trusted(given, policy, given.auditor, 0)
+    check_auditors(policy, auditors, faulty, given.without_auditors)
+    members = {"service": given.service, "auditors": auditors, "faulty": faulty, "alone": given.without_auditors}
     return {"policy": bytes(policy).decode(), "chain": "", "own": {}, "seen": {}, "found": [], "token": token, **members}
 
 
@@ -254,23 +286,26 @@ def parsed(words: Optional[Sequence[str]]) -> argparse.Namespace:
     begin("--service", required=True, type=url_of, metavar="URL", help="the directory's service")
     begin("--policy", required=True, type=Path, metavar="FILE", help="the policy document, not from the service itself")
     begin("--auditor", **pair, help="an auditor: name at least two")
-    begin("--faulty", type=int, default=0, metavar="N", help="how many auditors may lie (default: %(default)s)")
     change("--service", type=url_of, metavar="URL", help="the directory's service")
-    change("--add-auditor", **pair, help="one auditor more")
+    change("--add-auditor", **pair, dest="auditor", help="one auditor more")
     change("--remove-auditor", type=url_of, action="append", default=[], metavar="URL", help="an auditor less")
-    change("--faulty", type=int, metavar="N", help="how many auditors may lie")
     change(
         "--unwatch", type=name_of, action="append", default=[], metavar="NAME", help="watch a name no more; its secret key stays"
     )
     for command in ("begin", "set"):
         made[command].add_argument("--without-auditors", action="store_true", help="rely on the directory alone")
+        made[command].add_argument("--faulty", type=int, metavar="N", help="how many auditors may lie (at first: 0)")
+        made[command].add_argument("--trust", type=Path, metavar="FILE", help="a trust document, which has auditors and --faulty")
         made[command].add_argument("--token", type=Path, metavar="FILE", help="the token by which the service lets you write")
     for name in ("register", "lookup", "verify"):
         made[name].add_argument("name", type=name_of, metavar="NAME", help="a name")
     for name in ("register", "verify"):
         made[name].add_argument("key", type=key_of, metavar="KEY", help="text, or base64: and bytes in base64")
+    made["trust"].add_argument("file", type=Path, nargs="?", metavar="FILE", help="where the trust document is written")
     given = parser.parse_args(words)
-    if given.command == "begin" and (len(given.auditor) == 1 or not (given.auditor or given.without_auditors)):
+    if given.command in ("begin", "set") and given.trust and (given.faulty is not None or given.without_auditors):
+        parser.error("a trust document has the auditors, and how many of them may lie")
+    if given.command == "begin" and not given.trust and (len(given.auditor) == 1 or not (given.auditor or given.without_auditors)):
         parser.error("name at least two auditors by --auditor, or give --without-auditors: then nobody notices another chain")
     return given
 
@@ -281,7 +316,7 @@ def run(given: argparse.Namespace, tell: Telling) -> None:
         with closing(StateFile(given.state)) as file:
             person = Person(file, begun(file, given) if given.command == "begin" else file.read(), tell)
             call: Callable[..., None] = getattr(Commands(person), given.command)
-            words = [given] if given.command == "set" else [vars(given)[it] for it in ("name", "key") if it in given]
+            words = [given] if given.command == "set" else [vars(given)[it] for it in ("name", "key", "file") if it in given]
             person.tried(lambda: call(*words))
             if person.state["found"] and given.command != "evidence":
                 tell("something was found that you must see: run coniks-client evidence", ALARM)

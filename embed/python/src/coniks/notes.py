@@ -156,9 +156,10 @@ def read_note(document: bytes) -> Note:
 def quorum(auditors: int, faulty: int) -> int:
     """Returns how many of n auditors must agree, if at most f of them lie or are silent: the least k with 2k > n + f.
 
-    Two quorums of k auditors share at least 2k - n of them, so more than f, and one of these is honest. It was fed every entry up
-    to both heads, in one chain. So two clients that each have a quorum for a head have heads of one chain. The f silent ones must
-    not stop the others, k <= n - f, so n > 3f: raises ValueError otherwise.
+    Two quorums of k of the same n auditors share at least 2k - n of them, so more than f, and one of these is honest. It was fed every
+    entry up to both heads, in one chain. So two clients that each have a quorum for a head have heads of one chain, if both name the
+    same auditors and the same f: they compare the fingerprints of their trust documents (`coniks.trust`). The f silent ones must not
+    stop the others, k <= n - f, so n > 3f: raises ValueError otherwise.
     """
     if not 0 <= 3 * faulty < auditors:
         raise ValueError("more than three auditors are needed for each one that may lie")
