@@ -113,7 +113,11 @@ PYTHON = [
     ),
     Part(
         "the log",
-        [*package("log", "_files", "_lines"), *OF_PROVIDERS, "embed/python/tests/provider/first_format.jsonl"],
+        [
+            *package("log", "_files", "_lines", "_host", "_directory"),
+            *OF_PROVIDERS,
+            "embed/python/tests/provider/first_format.jsonl",
+        ],
         tests("provider", "test_formats", "test_mistakes"),
     ),
     Part(
