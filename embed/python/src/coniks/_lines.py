@@ -15,6 +15,8 @@ from ._threads import Turn
 from .faults import LogFailed, NotText, ProgramFailed, ProviderError
 
 SIGNATURE_LENGTH = 64
+# A name has at most 255 bytes.
+_TOO_LONG = "a" * 256
 
 
 def _opening() -> bytes:
@@ -101,7 +103,9 @@ def with_member(line: bytes, member: str, value: bytes) -> bytes:
 
 
 def lookup_line(name: str, index: bytes, epoch: int) -> bytes:
-    return f'{{"cmd":"lookup","epoch":{epoch},"index":"{index.hex()}","name":{json.dumps(name)}}}\n'.encode()
+    """The line of a lookup, for which the pipe to the child has room: in the place of a name that is too long another one is refused."""
+    sent = name if len(name.encode()) < len(_TOO_LONG) else _TOO_LONG
+    return f'{{"cmd":"lookup","epoch":{epoch},"index":"{index.hex()}","name":{json.dumps(sent)}}}\n'.encode()
 
 
 def install_line(signature: bytes) -> bytes:

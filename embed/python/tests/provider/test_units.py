@@ -354,6 +354,17 @@ def test_stopped_child(program: str) -> None:
         assert time.monotonic() - start < 5, "a child that hangs: close ends"
 
 
+@pytest.mark.parametrize("name", ["a" * 256, "a" * 200_000, "\U0001f511" * 64], ids=["256", "200000", "wide"])
+def test_long_names(program: str, name: str) -> None:
+    """A long name beside ordinary lookups is refused, and no call waits for ever: the pipe to the child has no room for such a line."""
+    with Room(program, timeout=20) as it:
+        it.provider.commit(1, [Register("alice", bytes(10_000))])
+        found = it.provider.lookups(["alice", "bob", *["alice"] * 300, name] * 4)
+        assert [type(one) for one in found] == ([Lookup] * 302 + [provider.NameLength]) * 4
+        raises("a lookup of a long name", provider.NameLength, lambda: it.provider.lookup(name))
+        assert it.provider.commit(2, []).epoch == 2
+
+
 def is_looked_up(own: Provider, name: str) -> bool:
     try:
         return own.lookup(name).name == name
