@@ -9,7 +9,7 @@ import os
 import stat
 import time
 from contextlib import suppress
-from typing import Iterator, Optional, Union
+from typing import Callable, Iterator, Optional, Union
 
 from .faults import LogFailed, LogRefused
 
@@ -87,8 +87,9 @@ def sync_folder(path: Path) -> None:
         os.close(folder)
 
 
-def rewrite(path: Path, data: bytes, mode: int = 0o644) -> None:
-    """Stores a file durably in the place of another one, by way of `PATH.new`. Only one process at a time may do so."""
+def rewrite(path: Path, data: bytes, mode: int = 0o644, may: Callable[[], bool] = lambda: True) -> bool:
+    """Stores a file durably in the place of another one, by way of `PATH.new`. Only one process at a time may do so: `may` is asked
+    last, and if it refuses, nothing is stored. Returns whether it was."""
     new = f"{os.fspath(path)}.new"
     with suppress(FileNotFoundError):
         # A process that was killed left it. Its rights may be others.
@@ -97,8 +98,13 @@ def rewrite(path: Path, data: bytes, mode: int = 0o644) -> None:
         file.write(data)
         file.flush()
         os.fsync(file.fileno())
+        if not may():
+            if identity_at(new) == identity_of(file.fileno()):
+                os.unlink(new)
+            return False
     os.replace(new, path)
     sync_folder(path)
+    return True
 
 
 class Replacement:

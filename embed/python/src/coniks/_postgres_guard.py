@@ -117,6 +117,9 @@ class PostgresGuard(Guard, Closing):
         rows = self._do("read", self._rows, "read", {"key": self._key})
         return rows[0][0].decode("latin-1") if rows else None
 
+    def _sync(self) -> None:
+        """A row that another session sees is durable."""
+
     def _swap(self, before: Optional[str], after: str) -> bool:
         return self._do("written", self._store, {"key": self._key, "before": before, "after": after})
 

@@ -33,7 +33,7 @@ from dataclasses import dataclass, replace
 from typing import Callable, Optional
 
 from . import BODY_LENGTH, ENTRY_LENGTH
-from ._files import Path, rewrite
+from ._files import Path, identity_at, identity_of, rewrite, sync_folder
 from ._lines import SIGNATURE_LENGTH, sized
 
 __all__ = ["BodyAbandoned", "BodyRefused", "BodySigned", "Guard", "GuardError", "RecordFailed"]
@@ -68,6 +68,11 @@ def _epochs(body: bytes) -> tuple[int, int]:
     return int.from_bytes(body[9:17], "big"), int.from_bytes(body[1:9], "big")
 
 
+def _is_after_same(body: bytes, other: bytes) -> bool:
+    """Whether two bodies follow the same entry."""
+    return (body[9:17], body[49:81]) == (other[9:17], other[49:81])
+
+
 def _is_malformed(body: bytes) -> bool:
     """Whether no chain has a body."""
     before, epoch = _epochs(body)
@@ -76,8 +81,8 @@ def _is_malformed(body: bytes) -> bool:
 
 @dataclass(frozen=True)
 class _Record:
-    """The last entry signed, the body that is open, each empty if there is none, and the bodies after that entry that are
-    abandoned. docs/FORMATS.md defines its text."""
+    """The last entry signed, the body that is open, each empty if there is none, and the bodies that are abandoned, after that entry
+    or after the one before it. docs/FORMATS.md defines its text."""
 
     signed: bytes = b""
     asked: bytes = b""
@@ -138,10 +143,11 @@ class Guard:
     """Signs bodies that follow each other, over a record in a file.
 
     Call it with a body, 145 bytes; it returns the signature. `sign(body)` uses the key, and is called after the record names the
-    body. If `verify(body, signature)` is given, what it doesn't accept is not stored, and raises `GuardError`.
+    body. If `verify(body, signature)` is given, here or to the provider, what it doesn't accept is not stored, and raises
+    `GuardError`; a signature that was stored without it is replaced.
 
     The file is replaced as a whole, under a lock on the file `PATH.lock` beside it, which stays. Only its owner may write it. A
-    subclass stores the record elsewhere: it replaces `_read`, `_swap` and `__str__`, and calls `_begin`.
+    subclass stores the record elsewhere: it replaces `_read`, `_sync`, `_swap` and `__str__`, and calls `_begin`.
     """
 
     def __init__(
@@ -180,10 +186,11 @@ class Guard:
 
     def __call__(self, body: bytes) -> bytes:
         """Returns the signature of a body that follows the last signed one. If the body is the last signed one, returns the
-        stored signature, and the key isn't used. Raises `BodyRefused` for another body, and what `sign` raises."""
+        stored signature, and the key isn't used unless `verify` refuses that signature. Raises `BodyRefused` for another body, and
+        what `sign` raises."""
         body = sized(body, BODY_LENGTH, "a body")
         record = self._change(lambda it: self._asking(it, body))
-        if not record.settles(body):
+        if not record.settles(body) or self._is_wrong(record, body):
             signature = sized(self._sign(body), SIGNATURE_LENGTH, "the signature")
             self._check_signature(body, signature)
             record = self._change(lambda it: self._signing(it, body, signature))
@@ -200,11 +207,21 @@ class Guard:
 
     def signed(self) -> Optional[bytes]:
         """Returns the last entry signed, 209 bytes. None if there is none."""
-        return self._parsed(self._read()).signed or None
+        return self._durable().signed or None
 
     def asked(self) -> Optional[bytes]:
         """Returns the body that was asked for, and is neither signed nor abandoned. None if there is none."""
-        return self._parsed(self._read()).asked or None
+        return self._durable().asked or None
+
+    def verify_by(self, verify: Callable[[bytes, bytes], bool]) -> None:
+        """Has signatures verified by this function from now on, unless one was passed. A provider passes its own."""
+        self._verify = self._verify or verify
+
+    def _is_wrong(self, record: _Record, body: bytes) -> bool:
+        """Whether the last signed body is stored with a signature that isn't valid, as of another key. The same body convicts nobody
+        if it is signed twice."""
+        signed, signature = record.signed[:BODY_LENGTH], record.signed[BODY_LENGTH:]
+        return signed == body and self._verify is not None and not self._verify(body, signature)
 
     def _check_signature(self, body: bytes, signature: bytes) -> None:
         if self._verify and not self._verify(body, signature):
@@ -227,11 +244,15 @@ class Guard:
         return replace(record, asked=body)
 
     def _signing(self, record: _Record, body: bytes, signature: bytes) -> _Record:
+        if self._is_wrong(record, body):
+            return replace(record, signed=body + signature)
         if record.settles(body):
             return record
         if record.asked != body:
-            raise BodyRefused(f"{self} changed while epoch {_epochs(body)[1]} was signed: see which other service uses this key")
-        return _Record(body + signature)
+            epoch = _epochs(body)[1]
+            raise BodyRefused(f"{self} changed while epoch {epoch} was signed: it was abandoned, or another service uses this key")
+        # Those of the epoch before can't be asked for any more.
+        return _Record(body + signature, abandoned=tuple(it for it in record.abandoned if _is_after_same(it, body)))
 
     def _abandoning(self, record: _Record, body: bytes) -> _Record:
         (before, epoch), (_, last) = _epochs(body), _epochs(record.signed)
@@ -261,6 +282,20 @@ class Guard:
             if self._swap(text, str(record)):
                 return record
 
+    def _durable(self) -> _Record:
+        """Returns the record once it is durable. A process that replaced it may have been killed before that, and what a power failure
+        takes back must not be returned."""
+        record = self._parsed(self._read())
+        self._sync()
+        return record
+
+    def _sync(self) -> None:
+        """Makes the record durable that was read."""
+        try:
+            sync_folder(self._path)
+        except OSError as error:
+            raise self._failed("made durable", error) from error
+
     def _read(self) -> Optional[str]:
         """Returns the record's text. None if there is none."""
         flags = os.O_NOFOLLOW | os.O_NONBLOCK | os.O_NOCTTY
@@ -289,13 +324,15 @@ class Guard:
     def _swap_under(self, lock: io.FileIO, before: Optional[str], after: str) -> bool:
         self._lock(lock)
         try:
-            if self._read() != before:
-                return False
-            rewrite(self._path, after.encode())
-            return True
+            return self._has(lock) and self._read() == before and rewrite(self._path, after.encode(), may=lambda: self._has(lock))
         finally:
             # A process that was forked meanwhile has the file open too, so that closing it wouldn't end the lock.
             fcntl.flock(lock, fcntl.LOCK_UN)
+
+    def _has(self, lock: io.FileIO) -> bool:
+        """Whether a lock is that of the file beside the record, so that another process waits for it. A cleaner of old files may have
+        removed that one, and another process made it anew."""
+        return identity_at(f"{self._path}.lock") == identity_of(lock.fileno())
 
     def _lock(self, lock: io.FileIO) -> None:
         until = time.monotonic() + _LOCK_SECONDS

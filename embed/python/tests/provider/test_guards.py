@@ -2,6 +2,7 @@
 
 from __future__ import annotations
 
+import fcntl
 import hashlib
 import os
 import re
@@ -20,6 +21,8 @@ from bodies import NONCE, Bench, after, bench_in, body, is_chain
 from stand_ins import HAS_NACL, Salted, Signer, lines, small_disk
 from raising import raises
 from worked_examples import worked_example
+from coniks import guard as guard_module
+from coniks._files import sync_folder
 from coniks.guard import BodyAbandoned, BodyRefused, BodySigned, Guard, GuardError, RecordFailed
 
 if HAS_NACL:
@@ -147,13 +150,17 @@ def test_abandon(room: str) -> None:
         refused("abandon: the body", BodyAbandoned, bench, lambda: bench.guard(it), "was abandoned", "later epoch")
     assert text.count("abandoned") == 3 and "asked" not in text, "abandon: each has its line"
     bench.sign(after(bench.last, 6))
-    assert "abandoned" not in bench.text(), "abandon: the lines go with the next signature"
+    for it in (first, second, third):
+        refused("abandon: after the next signature", BodyAbandoned, bench, lambda: bench.guard(it), "was abandoned", "later epoch")
+        bench.guard.abandon(it)
+    bench.sign(after(bench.last, 7))
+    assert "abandoned" not in bench.text(), "abandon: the lines go with the signature after that"
     refused("abandon: it is refused then too", BodyRefused, bench, lambda: bench.guard(first), "follows epoch 2")
     signed = bench.last[:145]
-    refused("abandon: a body that is signed", BodySigned, bench, lambda: bench.guard.abandon(signed), "epoch 6 is signed")
+    refused("abandon: a body that is signed", BodySigned, bench, lambda: bench.guard.abandon(signed), "epoch 7 is signed")
     refused("abandon: one that may be", BodySigned, bench, lambda: bench.guard.abandon(first), "may be signed")
     late = body(9, 8, NONCE)
-    refused("abandon: one after a lost entry", BodyRefused, bench, lambda: bench.guard.abandon(late), "put back", "epoch 6")
+    refused("abandon: one after a lost entry", BodyRefused, bench, lambda: bench.guard.abandon(late), "put back", "epoch 7")
     elsewhere = bench_in(room, "elsewhere", 0)
     elsewhere.guard.abandon(after(b""))
     elsewhere.guard = elsewhere.open(new_directory=True)
@@ -183,7 +190,7 @@ def test_race(room: str, other: bool) -> None:
         bench.sign(later)
 
     bench.signer.before = goes_on
-    raises(f"race: another one is signed meanwhile, {other}", BodyRefused, lambda: bench.guard(late))
+    raises(f"race: another one is signed meanwhile, {other}", BodyAbandoned, lambda: bench.guard(late))
     assert is_chain(bench.entries) and bench.guard.signed() == bench.last, f"race: one chain, {other}"
 
 
@@ -288,7 +295,8 @@ def test_texts(room: str) -> None:
     refused("record: its abandoned body", BodyAbandoned, bench, lambda: bench.guard(abandoned))
     assert bench.text() == text, "record: the text is written as it was read"
     told = bench.guard(asked)
-    assert bench.text() == f"coniks-guard 1\nsigned {(asked + told).hex()}\n", "record: its open body is signed"
+    wanted = f"coniks-guard 1\nsigned {(asked + told).hex()}\nabandoned {abandoned.hex()}\n"
+    assert bench.text() == wanted, "record: its open body is signed, and the abandoned one after the same entry stays"
     passed, wrong = list[str](), list[str]()
     calls: list[Call] = [bench.open, bench.guard.signed, bench.guard.asked, lambda: bench.guard(asked)]
     calls.append(lambda: bench.guard.abandon(asked))
@@ -419,6 +427,9 @@ class InMemory(Guard):
     def _read(self) -> Optional[str]:
         return self.record[0]
 
+    def _sync(self) -> None:
+        pass
+
     def _swap(self, before: Optional[str], after: str) -> bool:
         if self.meanwhile:
             self.meanwhile.pop(0)()
@@ -426,6 +437,70 @@ class InMemory(Guard):
             return False
         self.record[0] = after
         return True
+
+
+def test_wrong_key(room: str) -> None:
+    """A signature of another key that was stored without `verify` is replaced by that of the right key, also a second time. A
+    provider's `verify` counts for its guard."""
+    bench, other = Bench(room, 1), lambda _: bytes(64)
+    mine = after(bench.last)
+    wrong = Guard(bench.path, other)(mine)
+    assert not bench.signer.verify(mine, wrong) and bench.guard(mine) == wrong
+    bench.guard.verify_by(bench.signer.verify)
+    right = bench.guard(mine)
+    assert bench.signer.verify(mine, right) and bench.guard.signed() == mine + right == mine + bench.open()(mine)
+    later, guard = after(mine + right), Guard(bench.path, other)
+    guard.verify_by(bench.signer.verify)
+    raises("wrong key: it stores nothing", GuardError, lambda: guard(later))
+    assert bench.guard.signed() == mine + right and bench.guard.asked() == later
+    assert bench.signer.verify(later, bench.guard(later))
+
+
+@pytest.mark.parametrize("moment", ["locked", "written"])
+def test_removed_lock(room: str, moment: str, monkeypatch: pytest.MonkeyPatch) -> None:
+    """A cleaner removes the lock's file, and another guard signs another body, before this one has locked it or just before it renames:
+    only one of the bodies is signed."""
+    bench = Bench(room, 1)
+    other, mine, its = bench.open(), after(bench.last), after(bench.last, 5)
+    target, call = (fcntl, "flock") if moment == "locked" else (os, "fsync")
+    real, given = getattr(target, call), list[bytes]()
+
+    def away(*words: Any) -> Any:
+        monkeypatch.setattr(target, call, real)
+        found = real(*words) if moment == "written" else None
+        (bench.path.parent / "record.lock").unlink()
+        given.append(other(its))
+        return real(*words) if moment == "locked" else found
+
+    monkeypatch.setattr(target, call, away)
+    raises(f"removed lock: {moment}", BodyRefused, lambda: bench.guard(mine))
+    assert given and bench.guard.signed() == its + given[0] and mine not in bench.used()
+    assert sorted(it.name for it in bench.path.parent.iterdir()) == ["asked", "record", "record.lock"]
+
+
+def test_durable(room: str, monkeypatch: pytest.MonkeyPatch) -> None:
+    """What `signed` and `asked` return is durable: the folder is synced after the record is read."""
+    bench, steps = Bench(room, 1), list[str]()
+    read, sync = Guard._read, sync_folder
+
+    def reading(it: Guard) -> Optional[str]:
+        steps.append("read")
+        return read(it)
+
+    def syncing(path: Any) -> None:
+        steps.append("sync")
+        sync(path)
+
+    monkeypatch.setattr(Guard, "_read", reading)
+    monkeypatch.setattr(guard_module, "sync_folder", syncing)
+    assert bench.guard.signed() == bench.last and bench.guard.asked() is None and steps == ["read", "sync"] * 2
+
+    def failing(path: object) -> None:
+        raise OSError(5, "Input/output error")
+
+    monkeypatch.setattr(guard_module, "sync_folder", failing)
+    for call in (bench.guard.signed, bench.guard.asked):
+        refused("durable: a failing disk", RecordFailed, bench, call, "Input/output error")
 
 
 def test_swaps(room: str) -> None:
