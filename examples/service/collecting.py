@@ -55,8 +55,10 @@ class Asked:
 class Collector:
     """The operations by their names, and those that were decided lately. The event loop alone changes them."""
 
-    def __init__(self, holder: Holder, authorise: Authorise):
+    def __init__(self, holder: Holder, authorise: Authorise, is_late: bool = False):
         self.holder, self.authorise, self.failures = holder, authorise, 0
+        # Whether the next epoch may be far from the latest one, since the directory stood still.
+        self._is_late = is_late
         # All that are remembered, by their numbers.
         self.asked: dict[str, Asked] = {}
         # Those that wait for an epoch, and the batch of an epoch, while it isn't known whether the log has it.
@@ -165,7 +167,7 @@ class Collector:
         one of its operations, so that the others are to be tried again."""
         batch, operations = self._batch, [it.operation for it in self._batch.values()]
         try:
-            entry = await self._run(committed, provider, epoch, operations)
+            entry = await self._run(committed, provider, epoch, operations, self._is_late)
         except Fault as fault:
             if fault.position is None:
                 raise
@@ -174,6 +176,7 @@ class Collector:
             return True
         self._batch, self._epoch = {}, None
         if entry:
+            self._is_late = False
             for it in batch.values():
                 it.outcome.set_result(entry)
             LOG.info("epoch", extra={"members": {"epoch": epoch, "operations": len(batch)}})
@@ -182,14 +185,14 @@ class Collector:
         return False
 
 
-def committed(provider: Provider, epoch: int, operations: Sequence[Operation]) -> Optional[bytes]:
+def committed(provider: Provider, epoch: int, operations: Sequence[Operation], is_late: bool = False) -> Optional[bytes]:
     """Commits a batch, or finds what an earlier try left of it, and returns the epoch's entry. Returns None if the log hasn't it and
     no signature is under way, so that its operations may be committed under another number. Raises `Overtaken` if another process has
     written, and another error after which nothing of that is known."""
     if provider.latest().epoch < epoch:
         try:
             # If the batch is pending already, this has the same body signed.
-            return provider.commit(epoch, operations).entry
+            return provider.commit(epoch, operations, far=is_late).entry
         except (EpochNotLater, EpochNotNow, EpochSpent):
             return None
         except RestartNeeded:

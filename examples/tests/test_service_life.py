@@ -24,7 +24,7 @@ import collecting
 import ecvrf
 from coniks import provider
 from coniks.provider import Change, LogRefused, Operation, Overtaken, Register
-from collecting import Asked, committed
+from collecting import Asked, Collector, committed
 from holders import collector_of, judged, made
 from problems import Problem
 from services import PYTHON, Running, named, until
@@ -156,7 +156,7 @@ def fail_once(monkeypatch: pytest.MonkeyPatch, target: Any, call: str, error: Ex
     """Has a call fail once."""
     real = getattr(target, call)
 
-    def once(*_: object) -> object:
+    def once(*_: object, **__: object) -> object:
         monkeypatch.setattr(target, call, real)
         raise error
 
@@ -303,6 +303,20 @@ def test_end_amid_a_commit(program: str, tmp_path: Path, monkeypatch: pytest.Mon
             return asked.outcome.result()
 
         assert asyncio.run(story()) == holder.provider.chain()[-1] and holder.provider.latest().epoch == 2
+
+
+def test_long_stop(program: str, tmp_path: Path, monkeypatch: pytest.MonkeyPatch) -> None:
+    """An epoch that is more than a week after the latest one is committed only if the operator says so, and only once."""
+    with made(program, tmp_path) as holder:
+
+        def tried(collector: Collector, epoch: int) -> int:
+            monkeypatch.setattr(type(holder.provider), "epoch_now", lambda _: epoch)
+            asyncio.run(collector.commit())
+            return int(holder.provider.latest().epoch)
+
+        assert tried(collector_of(holder), 2000) == 1
+        late = Collector(holder, lambda _: True, is_late=True)
+        assert tried(late, 2000) == 2000 and tried(late, 2001) == 2001 and tried(late, 4000) == 2001 and late.failures == 1
 
 
 def test_another_writer(program: str, tmp_path: Path) -> None:

@@ -199,15 +199,20 @@ class EpochNotNow(ProviderError):
 
 
 class EpochTooFar(ProviderError):
-    """The epoch number is more than 2^32 above the latest, or above that of the pending update. Numbers only increase, so a
-    mistyped one would end the directory."""
+    """The epoch number is further above the latest, or above that of the pending update, than `most`: 2^32, or as many epochs as a week
+    has by the policy's clock. Numbers only increase, so a mistyped one, or a clock that is ahead once, would end the directory."""
 
-    def __init__(self, epoch: int, latest: int):
-        self.epoch, self.latest = epoch, latest
-        super().__init__(f"epoch {epoch} is more than 2^32 above the latest one, {latest}: pass far=True if it is meant")
+    def __init__(self, epoch: int, latest: int, most: int = 1 << 32):
+        self.epoch, self.latest, self.most = epoch, latest, most
+        why = (
+            "pass far=True if it is meant"
+            if most == 1 << 32
+            else ("look at the machine's clock, and pass far=True if the directory stood still for so long")
+        )
+        super().__init__(f"epoch {epoch} is more than {most} above the latest one, {latest}: {why}")
 
-    def __reduce__(self) -> tuple[type[EpochTooFar], tuple[int, int]]:
-        return type(self), (self.epoch, self.latest)
+    def __reduce__(self) -> tuple[type[EpochTooFar], tuple[int, int, int]]:
+        return type(self), (self.epoch, self.latest, self.most)
 
 
 class NotText(ProviderError, ValueError):

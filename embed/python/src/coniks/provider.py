@@ -63,7 +63,7 @@ from ._lines import sized
 from ._restoring import Restoring
 from ._snapshot_lines import Point, entries_in
 from .faults import *
-from .guard import BodyAbandoned, BodyRefused, BodySigned
+from .guard import BodyAbandoned, BodyRefused, BodySigned, Guard
 from .log import FileLog, Log, Path, SharedLog, SnapshotLog
 from .policy import Policy
 
@@ -90,6 +90,8 @@ Result = TypeVar("Result")
 
 # `commit` refuses an epoch number that is further than this above the latest one.
 _FAR = 1 << 32
+# By a clock no number is this many seconds after the latest one: a clock that was ahead once would end the directory.
+_WEEK = 7 * 86400
 
 
 class Provider(Directory):
@@ -160,6 +162,8 @@ class Provider(Directory):
 
     def _set_signer(self, sign: Sign, verify: Optional[Verify]) -> None:
         self._sign, self._verify = sign, verify
+        if verify and isinstance(sign, Guard):
+            sign.verify_by(verify)
         # A body that the signer has abandoned, and will not sign.
         self._abandoned: Optional[bytes] = None
 
@@ -246,7 +250,7 @@ class Provider(Directory):
 
         Before that are raised: `EpochSpent` for other operations under the epoch of the pending update or an earlier one;
         `EpochNotNow` if the policy has a clock and it has another number, unless `force`; `EpochTooFar` for a number more than
-        2^32 above the latest, unless `far`.
+        2^32 above the latest, or by the policy's clock more than a week and three epochs after it, unless `far`.
 
         After `ProgramFailed`, or `LogFailed` and then `restart`, the batch is installed if `latest().epoch` is its epoch, and
         pending if `pending` is its update. After `LogRefused` it is neither, or still pending.
@@ -279,8 +283,14 @@ class Provider(Directory):
             raise EpochSpent(epoch, latest)
         if self._clock and not force and epoch != (now := self.epoch_now()):
             raise EpochNotNow(epoch, now)
-        if epoch > latest + _FAR and not far:
-            raise EpochTooFar(epoch, latest)
+        most = self._most_ahead() if latest else _FAR
+        if epoch > latest + most and not far:
+            raise EpochTooFar(epoch, latest, most)
+
+    def _most_ahead(self) -> int:
+        """How far an epoch number may be above the latest one."""
+        period = self._clock.epoch_period if self._clock else None
+        return _FAR if period is None else max(3, _WEEK // period)
 
     def _is_abandoned(self, engine: Engine) -> bool:
         """Whether an update is pending that the signer has abandoned."""

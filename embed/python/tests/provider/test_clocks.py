@@ -6,6 +6,8 @@ import hashlib
 from typing import Callable
 from unittest import mock
 
+import pytest
+
 from memory_log import MemoryLog
 from one_chain import staged
 from stand_ins import POLICY, index, opened
@@ -73,6 +75,23 @@ def test_numbers(program: str) -> None:
         raises("clock: before it begins", ProviderError, own.epoch_now)
         raises("clock: a commit before it begins", ProviderError, lambda: own.commit(6, []))
         assert own.commit(6, [], force=True).epoch == 6 and stage.is_one_chain(), "clock: one that is meant"
+
+
+@pytest.mark.parametrize("period, most", [(60, 10080), (3600, 168), (86400, 7), (30 * 86400, 3)])
+def test_ahead(program: str, period: int, most: int) -> None:
+    """A clock that is more than a week and three epochs ahead once doesn't end the directory."""
+    clock, policy = Clock(1000), Policy("keys.example.com/clock", KEY, epoch_start=1000, epoch_period=period)
+    with mock.patch.object(provider, "time", clock), staged(program, policy=policy) as stage:
+        own = stage.provider
+        for ahead in (10 * 365 * 86400, (most + 1) * period):
+            clock.seconds = 1000 + ahead
+            error = raises("clock: ahead", EpochTooFar, lambda: own.commit(own.epoch_now(), []), latest=1, most=most)
+            assert "clock" in str(error) and "far=True" in str(error)
+        assert len(stage.bodies()) == 1, "clock: nothing is asked"
+        clock.seconds = 1000 + most * period
+        assert own.commit(own.epoch_now(), []).epoch == 1 + most, "clock: as far as may be"
+        clock.seconds += 2 * most * period
+        assert own.commit(own.epoch_now(), [], far=True).epoch == 1 + 3 * most, "clock: a directory that stood still"
 
 
 def test_pending(program: str) -> None:

@@ -16,6 +16,7 @@ import tempfile
 import threading
 import time
 from collections import Counter
+from contextlib import contextmanager
 from pathlib import Path
 from typing import Any, Callable, Iterable, Iterator, Optional, cast
 from unittest import mock
@@ -26,6 +27,7 @@ from stand_ins import HERE, POLICY, Salted, Signer, audited, has_ended, index, k
 from raising import raises
 from coniks import provider
 from coniks._engine import Sample
+from coniks.guard import Guard
 from coniks.provider import Change, Epoch, FileLog, Lookup, Provider, Register, entries
 
 
@@ -435,6 +437,30 @@ def test_signer(program: str) -> None:
     for error in (provider.EpochSpent(3, 5), provider.EpochTooFar(3, 5), provider.EpochNotNow(3, 5)):
         copied = pickle.loads(pickle.dumps(error))
         assert (str(copied), vars(copied)) == (str(error), vars(error)), f"{type(error).__name__}, pickled"
+
+
+def test_wrong_key(program: str, room: str) -> None:
+    """A key that isn't the directory's, under a guard without `verify`: nothing is stored by it, and with the right one back the
+    update is signed. So is one whose invalid signature such a guard has stored."""
+    signer, path, log = Signer(room, Salted()), Path(room) / "record", Path(room) / "log"
+
+    @contextmanager
+    def over(sign: Callable[[bytes], bytes], new: bool = False) -> Iterator[Provider]:
+        guard = Guard(path, sign, new_directory=new)
+        with FileLog.create(log) if new else FileLog(log) as file, opened(program, file, signer, guard) as own:
+            yield own
+
+    with over(signer, True) as own:
+        own.commit(1, [Register("alice", b"key")])
+    with over(lambda _: bytes(64)) as own:
+        raises("a wrong key", provider.SignerFailed, lambda: own.commit(2, []))
+        assert own.pending
+        body = own.pending.body
+        assert Guard(path, signer).asked() == body, "a wrong key: nothing is stored by it"
+        Guard(path, lambda _: bytes(64))(body)
+        raises("a wrong key: again", provider.SignerFailed, own.retry)
+    with over(signer) as own:
+        assert own.latest().epoch == 2 and audited(own.chain(), signer.keys, False), "a wrong key: the right one is back"
 
 
 def test_logs(program: str) -> None:
