@@ -4,6 +4,7 @@ from __future__ import annotations
 
 import base64
 import json
+import re
 import time
 from pathlib import Path
 from typing import Any, Optional
@@ -118,8 +119,8 @@ def texts(browser: Browser, selector: str) -> list[str]:
 
 
 def standings(browser: Browser) -> list[str]:
-    """What is said of each lookup, without the epochs that follow."""
-    return [it.split("; later epochs follow, up to ")[0] for it in texts(browser, ".standing")]
+    """What is said of each lookup, without its epoch and those that follow."""
+    return [re.split("; (?:later epochs|this is of epoch) ", it)[0] for it in texts(browser, ".standing")]
 
 
 def count(browser: Browser, selector: str) -> int:

@@ -22,7 +22,11 @@ VRF = re.findall(r"VRF +([0-9a-f]{64})", TRANSCRIPT)[0]
 OTHER_SIGNING = "d75a980182b10ab7d54bfed3c964073a0ee172f3daa62325af021a68f707511a"
 OTHER_VRF = "3d4017c3e843895a92b70aa74d1b7ebc9c982ccf2ec4968cc0cd55f12af4660c"
 
-AUTHENTIC = "authentic: signature, chain, VRF proof and path are verified"
+# The keys of PROVIDED are those of the example.
+AUTHENTIC = (
+    "authentic under the example's keys, which prove nothing about any directory since their secrets are public: "
+    "signature, chain, VRF proof and path are verified"
+)
 FORGEABLE = "valid under the demonstration's key, which anyone can forge"
 CONSISTENT = "consistent, not authenticated: its entry is in the pasted chain"
 UNSIGNED = f"{CONSISTENT}; no signature is verified"

@@ -3,13 +3,19 @@ or turn its sentence, and what contradicts itself is said first. Texts are compa
 
 from __future__ import annotations
 
+import hashlib
 import json
 import time
 from pathlib import Path
 from typing import Any, Optional, Sequence
 
+import pytest
+
+pytest.importorskip("nacl.signing")
+
 from browser import Browser, count, paste, set_keys, texts
 from given import DEMONSTRATION, ENTRIES, KEY, LOOKUPS, PROVIDED, SIGNING, VRF, case, key_of, lines_of, text_of
+from nacl.signing import SigningKey
 from picture import shows_green
 
 Line = dict[str, Any]
@@ -237,6 +243,14 @@ def test_attacks(browser: Browser) -> None:
     shown(browser, "a provider's lines without keys", PROVIDED, kind="none")
 
 
+def forged_entry() -> str:
+    """Another entry of the example's first epoch, signed by the example's secret key, which is in examples/provider."""
+    secret, body = SigningKey(hashlib.sha256(b"signing key").digest()), bytes.fromhex(ENTRIES[0]["entry"])[:145]
+    assert bytes(secret.verify_key).hex() == SIGNING
+    changed = body[:17] + bytes(32) + body[49:]
+    return json.dumps({"entry": (changed + secret.sign(changed).signature).hex()})
+
+
 def test_contradictions(browser: Browser) -> None:
     """Two answers for one name and epoch, and entries that convict. Lines that don't contradict are not called so."""
     alice, dave = LOOKUPS[0], LOOKUPS[3]
@@ -263,6 +277,7 @@ def test_contradictions(browser: Browser) -> None:
         ("a fork under another key", text, SIGNING, False),
         ("one entry twice", text.splitlines()[0] + "\n" + text.splitlines()[0], key, False),
         ("one chain", PROVIDED, SIGNING, False),
+        ("a forged entry under the example's key", f"{text_of(ENTRIES)}{forged_entry()}\n", SIGNING, False),
     ]:
         shown(browser, what, lines, signing=signing)
         said = [it for it in contradictions(browser) if it.startswith("The provider equivocated")]

@@ -8,7 +8,7 @@ from pathlib import Path
 from typing import Any, Sequence
 
 import samples
-from browser import FRESH, Browser, count, note, paste, press, set_keys, standings, texts, wait
+from browser import FRESH, PAGE, Browser, count, note, paste, press, set_keys, standings, texts, wait
 from given import (
     AUTHENTIC,
     DEMONSTRATION,
@@ -26,6 +26,7 @@ from given import (
     UNSIGNED,
     VRF,
     case,
+    key_of,
     lines_of,
     text_of,
 )
@@ -37,19 +38,22 @@ FOLLOWS = "epoch {} follows in the chain; its signature is {}verified"
 
 def test_example(browser: Browser) -> None:
     """The page begins with a provider's lines under its keys."""
+    browser.open(PAGE.as_uri())
+    wait(browser)
     wanted = [f'"alice" is bound to this key at epoch {it}' for it in (1, 2, 3)] + ['"dave" is not registered at epoch 2']
     assert texts(browser, ".verdict") == wanted, ("the example's verdicts", texts(browser, ".verdict"))
     keys = ['"key of alice"', '"key of alice"', '"key of mallory"']
     assert texts(browser, "summary .key") == keys, ("the example's keys", texts(browser, "summary .key"))
     assert standings(browser) == [AUTHENTIC] * 4, ("all of them are authentic", standings(browser))
     later = [it.removeprefix(AUTHENTIC) for it in texts(browser, ".standing")]
-    wanted = ["; later epochs follow, up to 3"] * 2 + ["", "; later epochs follow, up to 3"]
-    assert later == wanted, ("the epochs that follow are told", later)
+    wanted = ["; later epochs follow, up to 3"] * 4
+    wanted[2] = "; this is of epoch 3; later epochs may exist"
+    assert later == wanted, ("the epochs that follow are told, or that they may exist", later)
     assert count(browser, ".lookup.authentic") == 4, "and shown as authentic"
     seen = [
-        'epoch 1first key "key of alice"',
-        'epoch 2same key "key of alice"',
-        'epoch 3changed from "key of alice" to "key of mallory"',
+        'epoch 1authentic under the example\'s keys: first key "key of alice"',
+        'epoch 2authentic under the example\'s keys: same key "key of alice"',
+        'epoch 3authentic under the example\'s keys: changed from "key of alice" to "key of mallory"',
     ]
     assert texts(browser, "#timeline li") == seen, ("alice over the epochs", texts(browser, "#timeline li"))
     levels = len(LOOKUPS[0]["proof"]["siblings"])
@@ -57,7 +61,10 @@ def test_example(browser: Browser) -> None:
     root = LOOKUPS[0]["root"]
     whole = browser.value("(it => { it.click(); return [it.textContent, it.ariaLabel]; })(document.querySelector('.root .hash'))")
     assert whole == [root, f"the root {root}"], ("a pressed hash shows whole, and is read whole", whole)
-    summary = "4 lookups: 4 authentic, 0 consistent but not authenticated, 0 refused. 3 entries: 3 follow in the chain, their signatures are verified."
+    summary = (
+        "4 lookups: 4 authentic under the example's keys, 0 consistent but not authenticated, 0 refused. "
+        "3 entries: 3 follow in the chain, their signatures are verified (the example's key)."
+    )
     assert texts(browser, "#summary") == [summary], ("the example is counted", texts(browser, "#summary"))
     assert browser.value("document.getElementById('pasted').open") is False, "the example is folded"
     assert browser.value("document.getElementById('contradictions').hidden") is True, "no contradiction is shown"
@@ -187,11 +194,32 @@ def test_typed_keys(browser: Browser) -> None:
     chosen = browser.value("document.querySelector('input[name=keys]:checked').value")
     assert chosen == "none" and note(browser, "signing")[0] == "", ("the example's keys are dropped for other lines", chosen)
     assert browser.value("document.getElementById('of-provider').hidden") is True, "and their fields are hidden"
-    press(browser, "example")
-    edited = PROVIDED.replace("key of", "key to")
-    paste(browser, edited)
-    chosen = browser.value("document.querySelector('input[name=keys]:checked').value")
-    assert chosen == "provider", ("the example's keys stay while its lines are edited", chosen)
+    for what, lines, wanted in [
+        ("some of its lines", "".join(PROVIDED.splitlines(True)[1:]), "provider"),
+        ("a part of one of its lines", '{"', "none"),
+        ("one of its lines, and others", f"{PROVIDED.splitlines()[0]}\n{case('fork')}", "none"),
+        ("its lines, one of them edited", PROVIDED.replace('"epoch":1', '"epoch":7', 1), "none"),
+    ]:
+        press(browser, "example")
+        paste(browser, lines)
+        chosen = browser.value("document.querySelector('input[name=keys]:checked').value")
+        assert chosen == wanted, (f"the example's keys, and {what}", chosen)
+    set_keys(browser)
+
+
+def test_example_keys(browser: Browser) -> None:
+    """The example's keys are called so wherever they count, also if they are typed, and other keys are not."""
+    for what, keys, lines, wanted in [
+        ("both", {"signing": SIGNING, "vrf": VRF}, PROVIDED, True),
+        ("capitals", {"signing": SIGNING.upper(), "vrf": VRF.upper()}, PROVIDED, True),
+        ("the signing key alone", {"signing": SIGNING}, PROVIDED, True),
+        ("another signing key", {"signing": key_of("fork"), "vrf": OTHER_VRF}, case("fork"), False),
+    ]:
+        set_keys(browser, "provider", **keys)
+        paste(browser, lines)
+        assert browser.value("document.getElementById('of-example').checkVisibility()") is wanted, (what, "beside the keys")
+        said = ["the example's key" in it for it in [*texts(browser, "#summary"), *texts(browser, "#results .entry")[:1]]]
+        assert said == [wanted] * 2, (what, texts(browser, "#summary"), texts(browser, "#results .entry"))
     set_keys(browser)
 
 
@@ -217,7 +245,10 @@ def test_provider_lines(browser: Browser) -> None:
         assert (count(browser, ".authentic") > 0) == (standing == AUTHENTIC), f"lookups {what}: colours"
     changed = ENTRIES[1] | {"entry": ENTRIES[1]["entry"][:-1] + "8"}
     paste(browser, text_of([ENTRIES[0], changed, ENTRIES[2], *LOOKUPS]))
-    wanted = "4 lookups: 1 authentic, 3 consistent but not authenticated, 0 refused. 3 entries: 1 follows in the chain, its signature is verified; 2 refused."
+    wanted = (
+        "4 lookups: 1 authentic under the example's keys, 3 consistent but not authenticated, 0 refused. "
+        "3 entries: 1 follows in the chain, its signature is verified (the example's key); 2 refused."
+    )
     assert texts(browser, "#summary") == [wanted], ("an entry whose signature is changed", texts(browser, "#summary"))
     wanted = 'Under an entry that isn\'t in the pasted chain, "alice" is bound to this key at epoch 2'
     assert texts(browser, ".verdict")[1] == wanted, ("the lookups of its epoch", texts(browser, ".verdict"))

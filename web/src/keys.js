@@ -7,8 +7,8 @@ import { counting } from "./words.js";
 
 /**
  * No keys, the demonstration's, or a provider's. `key` is the demonstration's. Without `signatures` no signature is verified.
- * Without `indices` no VRF proof is.
- * @typedef {{kind: "none" | "demonstration" | "provider", key: Uint8Array | null, signatures: any, indices: any}} Keys
+ * Without `indices` no VRF proof is. With `isExample` the signing key is the example's, so that anyone can forge what it verifies.
+ * @typedef {{kind: "none" | "demonstration" | "provider", key: Uint8Array | null, signatures: any, indices: any, isExample: boolean}} Keys
  * @typedef {"signing" | "vrf" | "key"} Field
  */
 
@@ -18,8 +18,15 @@ export const NOT_VERIFIED = "not verified: ";
 /** @type {Field[]} */
 export const FIELDS = ["signing", "vrf", "key"];
 
+/** The keys of the example's provider. Their secrets are in the example. @type {Record<Field, string>} */
+export const EXAMPLE = {
+  signing: "7070989e5213af62484d0e6ae00fb96e2a518e43464c94b94047d44c7a231c9e",
+  vrf: "8f41ef74c6990c41a4e736c037b686f2c12b0b78229b1915d3b79923b95b5587",
+  key: "",
+};
+
 /** @type {Keys} */
-const NONE = { kind: "none", key: null, signatures: null, indices: null };
+const NONE = { kind: "none", key: null, signatures: null, indices: null, isExample: false };
 
 /** Why nothing is verified, by what the browser lacks. @type {Record<string, string>} */
 const LACKS = {
@@ -113,7 +120,7 @@ export async function keysOf(coniks, kind, texts) {
   if (kind === "demonstration") {
     const key = keyOf(texts.key);
     wrong.key = wrongWords(texts.key);
-    return { keys: key === null ? NONE : { kind, key, signatures: new Seal(key), indices: null }, wrong };
+    return { keys: key === null ? NONE : { ...NONE, kind, key, signatures: new Seal(key) }, wrong };
   }
   if (kind !== "provider") return { keys: NONE, wrong };
   const [signing, vrf] = [await schemeOf(texts.signing, signaturesOf), await schemeOf(texts.vrf, indicesOf)];
@@ -121,5 +128,6 @@ export async function keysOf(coniks, kind, texts) {
   wrong.signing = signing.wrong || (signing.scheme === null && vrf.scheme !== null ? "missing: without the signing key nothing is verified but paths" : "");
   if (signing.scheme === null) return { keys: NONE, wrong };
   const indices = vrf.scheme && new RememberedIndices(vrf.scheme);
-  return { keys: { kind, key: null, signatures: new Remembered(coniks, signing.scheme), indices }, wrong };
+  const isExample = texts.signing.toLowerCase() === EXAMPLE.signing;
+  return { keys: { kind, key: null, signatures: new Remembered(coniks, signing.scheme), indices, isExample }, wrong };
 }

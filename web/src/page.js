@@ -5,7 +5,7 @@ import { equivocation, twoAnswers } from "./contradictions.js";
 import { Coniks } from "./coniks.js";
 import { pathOf } from "./draw.js";
 import { element, sentence } from "./elements.js";
-import { FIELDS, NOT_VERIFIED, keysOf } from "./keys.js";
+import { EXAMPLE, FIELDS, NOT_VERIFIED, keysOf } from "./keys.js";
 import { linesOf } from "./lines.js";
 import { Reading } from "./reading.js";
 import { Teller, counted, kindOf, seenWords } from "./rows.js";
@@ -34,12 +34,6 @@ const MANY = 100;
 /** A longer text isn't put into the field, which would take longer than checking it. */
 const LONG = 200_000;
 
-/** The keys of the example's provider. @type {Record<Field, string>} */
-const EXAMPLE = {
-  signing: "7070989e5213af62484d0e6ae00fb96e2a518e43464c94b94047d44c7a231c9e",
-  vrf: "8f41ef74c6990c41a4e736c037b686f2c12b0b78229b1915d3b79923b95b5587",
-  key: "",
-};
 /** @type {Record<Field, string>} */
 const NO_KEYS = { signing: "", vrf: "", key: "" };
 
@@ -140,7 +134,7 @@ function showTimeline(reading, name) {
     for (let shown = 0; !next.done && shown < EPOCHS; next = watched.next(), shown++) {
       const it = next.value;
       const epochs = it.seen === "missing" && it.last !== it.epoch ? `epochs ${it.epoch} to ${it.last}` : `epoch ${it.epoch}`;
-      list.append(element("li", it.seen, element("span", "epoch", epochs), sentence("", [seenWords(it)])));
+      list.append(element("li", it.seen, element("span", "epoch", epochs), sentence("", [seenWords(it, reading.keys)])));
     }
     later.hidden = next.done;
   };
@@ -262,6 +256,7 @@ async function readAll() {
   const { keys, wrong } = await keysOf(coniks, chosen(), keyTexts());
   if (mine !== turn) return;
   for (const field of FIELDS) tellKey(field, wrong[field]);
+  part("of-example").hidden = !keys.isExample;
   const work = new Work(new Reading(coniks, keys), mine);
   for (const step of [readLines, judgeLookups, showContradictions, showRows]) {
     await step(work);
@@ -278,7 +273,7 @@ async function showRows(work) {
   part("reading").hidden = true;
   part("folded").textContent = rows.length ? `${counting(rows.length, "line")}: show them, or paste others` : "Paste lines";
   const cut = cancelled === work.mine ? `Cancelled after ${counting(rows.length, "line")}; the rest is not read. ` : "";
-  part("summary").textContent = cut + (rows.length ? counted(counts, keys.kind) : "Nothing is pasted.");
+  part("summary").textContent = cut + (rows.length ? counted(counts, keys) : "Nothing is pasted.");
   if (counts.unsigned && !counts.signed) tellKey(keys.kind === "provider" ? "signing" : "key", `wrong key: no signature of ${counting(counts.unsigned, "entry", "entries")} is one under it`);
   await show(work, 0);
   const first = /** @type {HTMLDetailsElement | null} */ (document.querySelector("details.lookup"));
@@ -292,12 +287,16 @@ async function contentsOf(files) {
   return all;
 }
 
-/** The keys of the example are for its lines alone. @param {string} [text] */
-function dropExampleKeys(text = "") {
-  const example = part("tour").textContent ?? "";
-  const isKept = text.split("\n").some((it) => it !== "" && example.includes(it));
-  if (isExample && !isKept) setKeys("none", NO_KEYS);
-  isExample &&= isKept;
+/** Whether each line is one of the example. @param {string} text */
+function isOfExample(text) {
+  const example = new Set((part("tour").textContent ?? "").split("\n"));
+  return text.split("\n").every((it) => example.has(it));
+}
+
+/** The keys of the example are for its lines alone. */
+function dropExampleKeys() {
+  if (isExample) setKeys("none", NO_KEYS);
+  isExample = false;
 }
 
 /** Takes texts or files. Only a short text is put into the field. @param {(string | Uint8Array)[]} parts */
@@ -343,15 +342,18 @@ function listenToLines() {
   input.addEventListener("input", (/** @type {InputEvent} */ event) => {
     given = [input.value];
     part("pasted").open = event.inputType !== "insertFromPaste";
-    dropExampleKeys(input.value);
+    if (!isOfExample(input.value)) dropExampleKeys();
     soon();
   });
   const keysChanged = () => {
-    isExample = false;
     showFields();
     soon();
   };
-  for (const field of FIELDS) part(field).addEventListener("input", keysChanged);
+  const keyTyped = () => {
+    isExample = false;
+    keysChanged();
+  };
+  for (const field of FIELDS) part(field).addEventListener("input", keyTyped);
   part("choice").addEventListener("change", keysChanged);
   files.addEventListener("change", async () => {
     const parts = await contentsOf(files.files);

@@ -99,8 +99,8 @@ export class Reading {
   async isSigned(entry) {
     if (this.keys.signatures === null) return null;
     const isGood = (await this.keys.signatures.verify(entry.slice(0, BODY), entry.slice(BODY))) === true;
-    // Whoever can verify an entry of the demonstration can make one, so it is no evidence.
-    if (isGood && this.keys.kind === "provider") this.signed.add(this.coniks.link(entry), entry);
+    // Anyone can make an entry of the demonstration or of the example, so it is no evidence.
+    if (isGood && this.keys.kind === "provider" && !this.keys.isExample) this.signed.add(this.coniks.link(entry), entry);
     return isGood;
   }
 

@@ -11,6 +11,7 @@ import { capital, counting, keyText } from "./words.js";
  * @typedef {import("./reading.js").EntryRow} EntryRow
  * @typedef {import("./reading.js").Reading} Reading
  * @typedef {import("./reading.js").Seen} Seen
+ * @typedef {import("./keys.js").Keys} Keys
  * @typedef {(string | HTMLElement)[]} Words
  */
 
@@ -52,6 +53,9 @@ const CONDITIONS = {
   none: "under the root in this line, which has no entry",
 };
 
+/** What follows a word that the example's keys alone stand for. */
+const EXAMPLE = " under the example's keys";
+
 export class Teller {
   /** @param {any} coniks @param {Reading} reading */
   constructor(coniks, reading) {
@@ -85,12 +89,18 @@ export class Teller {
     return [under ? `${capital(under)}, ` : "", name, ` is ${isBound ? "bound to this key" : "not registered"}${at}`];
   }
 
+  /** What is known of later epochs. @param {LookupRow} row @returns {string} */
+  later({ epoch }) {
+    const { latest } = this.reading;
+    if (epoch !== null && epoch < latest) return `; later epochs follow, up to ${latest}`;
+    return `${epoch === null ? "" : `; this is of epoch ${epoch}`}; later epochs may exist`;
+  }
+
   /** What was verified of a lookup, and what not. @param {LookupRow} row @returns {string} */
   standing(row) {
-    const [state, keys] = [this.reading.stateOf(row), this.reading.keys];
-    const later = row.epoch !== null && row.epoch < this.reading.latest ? `; later epochs follow, up to ${this.reading.latest}` : "";
+    const [state, keys, later] = [this.reading.stateOf(row), this.reading.keys, this.later(row)];
     if (state === "refused") return `refused${otherEpoch(row)}`;
-    if (state === "authentic") return `authentic: signature, chain, VRF proof and path are verified${later}`;
+    if (state === "authentic") return `authentic${keys.isExample ? `${EXAMPLE}, which prove nothing about any directory since their secrets are public` : ""}: signature, chain, VRF proof and path are verified${later}`;
     if (state === "forgeable") return `valid under the demonstration's key, which anyone can forge${later}`;
     const lacks = [STANDINGS[this.reading.standing(row)]];
     if (keys.signatures === null) lacks.push("no signature is verified");
@@ -100,7 +110,7 @@ export class Teller {
 
   /** @param {EntryRow} row @returns {string} */
   entry(row) {
-    const signature = row.isSigned === null ? "its signature is not verified" : this.reading.keys.kind === "provider" ? "its signature is verified" : "its seal is valid, which anyone can forge";
+    const signature = `${OF_ONE[this.reading.keys.kind]} ${signedWords(this.reading.keys)}`;
     if (row.refusal === null) return `epoch ${row.epoch} follows in the chain; ${signature}${otherEpoch(row)}`;
     const { why, status } = row.refusal;
     return `refused: the entry of epoch ${row.epoch}: ${status === null ? REFUSED[why] ?? why : this.coniks.text(status)}${otherEpoch(row)}`;
@@ -120,9 +130,9 @@ export class Teller {
 /** What is in front of what is seen, if the lookup is not authentic. @type {Record<string, string>} */
 const UNSURE = { forgeable: "forgeable: ", consistent: "not authenticated: " };
 
-/** What is seen of a name at an epoch. @param {{state: string} & Seen} it @returns {string} */
-export function seenWords(it) {
-  return (UNSURE[it.state] ?? "") + seenText(it);
+/** What is seen of a name at an epoch. @param {{state: string} & Seen} it @param {Keys} keys @returns {string} */
+export function seenWords(it, keys) {
+  return (it.state === "authentic" && keys.isExample ? `authentic${EXAMPLE}: ` : UNSURE[it.state] ?? "") + seenText(it);
 }
 
 /** @param {Seen} it @returns {string} */
@@ -147,22 +157,29 @@ export function kindOf(row, reading) {
   return row.what === "unread" ? row.fault : row.what;
 }
 
-/** What is said of the signatures of several entries. */
+/** What signs one entry, and several. */
+const OF_ONE = { none: "its signature is", demonstration: "its seal is", provider: "its signature is" };
+const OF_SEVERAL = { none: "their signatures are", demonstration: "their seals are", provider: "their signatures are" };
 const SIGNED = { none: "not verified", demonstration: "valid, which anyone can forge", provider: "verified" };
 
-/** @param {Counts} counts @param {"none" | "demonstration" | "provider"} kind @returns {string} */
-function entriesWords(counts, kind) {
+/** What is said of signatures. @param {Keys} keys @returns {string} */
+function signedWords({ kind, isExample }) {
+  return SIGNED[kind] + (isExample ? " (the example's key)" : "");
+}
+
+/** @param {Counts} counts @param {Keys} keys @returns {string} */
+function entriesWords(counts, keys) {
   const [followed, refused] = [counts.followed ?? 0, (counts.unfollowed ?? 0) + (counts.broken ?? 0)];
   const broken = counts.broken ? `, ${counts.broken} of them malformed` : "";
-  const what = kind === "demonstration" ? ["its seal is", "their seals are"] : ["its signature is", "their signatures are"];
-  const chain = followed ? `: ${followed} ${followed === 1 ? "follows" : "follow"} in the chain, ${what[followed === 1 ? 0 : 1]} ${SIGNED[kind]}` : "";
+  const what = followed === 1 ? `follows in the chain, ${OF_ONE[keys.kind]}` : `follow in the chain, ${OF_SEVERAL[keys.kind]}`;
+  const chain = followed ? `: ${followed} ${what} ${signedWords(keys)}` : "";
   return `${counting(followed + refused, "entry", "entries")}${chain}${refused ? `; ${refused} refused${broken}` : ""}.`;
 }
 
-/** All rows in numbers. @param {Counts} counts @param {"none" | "demonstration" | "provider"} kind @returns {string} */
-export function counted(counts, kind) {
+/** All rows in numbers. @param {Counts} counts @param {Keys} keys @returns {string} */
+export function counted(counts, keys) {
   const [authentic, forgeable, consistent, refused] = [counts.authentic ?? 0, counts.forgeable ?? 0, counts.consistent ?? 0, counts.refused ?? 0];
-  const best = kind === "demonstration" ? `${forgeable} valid under the demonstration's key` : `${authentic} authentic`;
+  const best = keys.kind === "demonstration" ? `${forgeable} valid under the demonstration's key` : `${authentic} authentic${keys.isExample ? EXAMPLE : ""}`;
   const lookups = `${counting(authentic + forgeable + consistent + refused, "lookup")}: ${best}, ${consistent} consistent but not authenticated, ${refused} refused.`;
   const rest = [
     [counts.unproved, "answer without a proof", "answers without a proof"],
@@ -172,5 +189,5 @@ export function counted(counts, kind) {
     [counts.other, "other line", "other lines"],
   ];
   const others = rest.flatMap(([many, one, more]) => (many ? [`${counting(/** @type {number} */ (many), String(one), String(more))}.`] : []));
-  return [lookups, entriesWords(counts, kind), ...others].join(" ");
+  return [lookups, entriesWords(counts, keys), ...others].join(" ");
 }
