@@ -14,19 +14,24 @@ pytest.importorskip("nacl.signing")
 
 import client_world
 from browser import WEB, Browser, count, texts
-from client_world import World, hour
+from client_world import FIRST, World, hour
 from coniks import Head, Policy
 from coniks.notes import Auditor, Note, cosign, text_of
-from coniks.vouching import Place, first
-from directories import BEGUN, Directory, Reply
+from coniks.vouching import Place, Record, convicts, first, following
+from directories import Directory, Reply
 from nacl.signing import SigningKey
 
 FOLLOW = WEB / "out/follow.html"
-LARGEST = 150_000
+LARGEST = 200_000
 POLICY = Policy.read(client_world.POLICY.encode())
-KEYS = {name: SigningKey(name.encode().ljust(32)) for name in ["one", "two", "other"]}
+KEYS = {name: SigningKey(name.encode().ljust(32)) for name in ["one", "two", "three", "four", "five", "other", "alice"]}
 AUDITORS = [Auditor(name, bytes(KEYS[name].verify_key)) for name in ["one", "two"]]
-# A directory that parts from the honest one at its latest epoch.
+# Alice's records, and a directory that has the first one.
+ALICE = Place(POLICY.digest, "alice")
+RECORD = first(ALICE, KEYS["alice"], b"key of alice")
+NEXT = following(ALICE, KEYS["alice"], RECORD, b"next key")
+BEGUN = [(1, {**FIRST, "alice": RECORD}), (2, {"carol": b"key of carol"})]
+# A directory that parts from that one at its latest epoch.
 FORK = World([BEGUN[0], (2, {"alice": b"key of mallory"})])
 DONE = "document.getElementById('state')?.dataset.done === 'true'"
 
@@ -42,11 +47,20 @@ class Site(Directory):
     """A service that has the page, at an origin of its own."""
 
     def __init__(self) -> None:
-        super().__init__()
+        super().__init__(BEGUN)
         page = FOLLOW.read_bytes()
         self.lies["/"] = lambda _: Reply(page, headers={"Content-Type": "text/html"})
         self.lies["/v1/head"] = lambda _: Reply(b"{}")
         self.note = note(self.world, 2)
+
+    def confirmed(self, epoch: int, **keys: bytes) -> None:
+        """Makes an epoch, and has both auditors cosign it."""
+        self.commit(epoch, **keys)
+        self.note = note(self.world, epoch, seconds=hour(epoch))
+
+    def carry(self, **notes: bytes) -> None:
+        """Carries a note of each auditor, and none of several."""
+        self.lies["/v1/note"] = lambda query: Reply(notes.get(query.get("auditor", ""), b""))
 
 
 class Visitor:
@@ -82,9 +96,9 @@ class Visitor:
         self.browser.until(DONE)
         return self.result
 
-    def begin(self, policy: str = client_world.POLICY, *auditors: str) -> str:
+    def begin(self, policy: str = client_world.POLICY, *auditors: str, faulty: str = "0") -> str:
         self.open()
-        return self.press("start", policy=policy, auditors="\n".join(auditors or map(str, AUDITORS)))
+        return self.press("start", policy=policy, auditors="\n".join(auditors or map(str, AUDITORS)), faulty=faulty)
 
     def look(self, name: str) -> str:
         return self.press("look", name=name)
@@ -124,17 +138,16 @@ def test_follows(visitor: Visitor) -> None:
     assert visitor.open() == "" and visitor.shows("begin") and not visitor.shows("asking")
     visitor.browser.forget()
     visitor.begin()
-    assert not visitor.shows("begin") and visitor.opinions[0] == "2 of your 2 auditors confirm this chain."
-    assert visitor.look(
-        "Alice"
-    ) == 'Verified and stored: "alice" has the key "key of alice" at epoch 2.The authentication path' + path_of(visitor)
+    assert not visitor.shows("begin") and visitor.opinions[0] == "2 of your 2 auditors confirm this chain up to epoch 2."
+    wanted = 'Verified and stored: "alice" has the key "key of alice" in record 1 of its owner at epoch 2.The authentication path'
+    assert visitor.look("Alice") == wanted + path_of(visitor)
     assert visitor.opinions[1:] == [f"{it} agrees with this chain up to epoch 2" for it in ["one", "two"]]
     assert "no key at epoch 2" in visitor.look("nobody") and visitor.is_verified
-    visitor.site.commit(3, alice=b"next key")
-    visitor.site.note = note(visitor.site.world, 3)
+    visitor.site.confirmed(3, alice=NEXT)
     visitor.open()
     assert not visitor.shows("begin") and len(texts(visitor.browser, "#entries > li")) == 2
-    assert '"next key" at epoch 3' in visitor.look("alice")
+    wanted = '"next key" in record 2 of its owner in place of "key of alice", and its owner signed the change at epoch 3.'
+    assert wanted in visitor.look("alice") and visitor.is_verified
     assert texts(visitor.browser, "#since")[0].endswith(
         "3 entries, epochs 1 to 3. Each is signed, and has the link of the one before."
     )
@@ -146,7 +159,7 @@ def path_of(visitor: Visitor) -> str:
     """The text of the path, which has the tree's root and the key."""
     text = "".join(texts(visitor.browser, "#result figure"))
     root = visitor.site.world[2][17:49].hex()
-    assert f"{root[:8]}…{root[-4:]}" in text and "key of alice" in text and "verified by its VRF proof" in text
+    assert f"{root[:8]}…{root[-4:]}" in text and f"0x{RECORD.hex()[:32]}" in text and "verified by its VRF proof" in text
     return text
 
 
@@ -156,6 +169,9 @@ def test_wrong_beginnings(visitor: Visitor) -> None:
     assert "one auditor can't be compared" in visitor.begin(client_world.POLICY, one)
     assert "listed twice" in visitor.begin(client_world.POLICY, one, one)
     assert "no verifier key" in visitor.begin(client_world.POLICY, one, two[:-2] + "A=")
+    assert "more than three auditors are needed for each one that may lie" in visitor.begin(faulty="1")
+    for wrong in ["", "-1", "0.5", "none"]:
+        assert "is a number in digits" in visitor.begin(faulty=wrong)
     other = SigningKey(bytes(32)).verify_key
     assert "no point of prime order" not in visitor.begin(client_world.POLICY, one, str(Auditor("two", bytes(other))))
     assert visitor.opinions[0].startswith("1 of your 2 auditors confirm this chain, and 2 must")
@@ -181,19 +197,60 @@ def test_hostile_names(visitor: Visitor) -> None:
     assert len(visitor.site.asked) == asked, "nothing was asked for"
 
 
-def test_record(visitor: Visitor) -> None:
-    """Of a record that its owner signs, the owner's key is shown."""
-    visitor.site.commit(3, alice=first(Place(POLICY.digest, "alice"), KEYS["one"], b"own key"))
+# Bytes that look like a record of dave's and are none: whom the page can't call their owner.
+UNSIGNED = {
+    "no signature": bytes(Record((1 << 64) - 1, bytes(KEYS["alice"].verify_key), bytes(32), bytes(64), b"own key")),
+    "another name's": RECORD,
+    "another directory's": first(Place(bytes(32), "dave"), KEYS["alice"], b"own key"),
+}
+
+
+@pytest.mark.parametrize("value", UNSIGNED.values(), ids=UNSIGNED)
+def test_unsigned_record(visitor: Visitor, value: bytes) -> None:
+    """Bytes are a record of its owner only if the owner signed them for this name and directory."""
+    visitor.site.confirmed(3, dave=value)
     visitor.begin()
-    assert '"alice" has the key "own key" in record 1 of its owner at epoch 3' in visitor.look("alice")
+    said = visitor.look("dave")
+    assert "has the key 0x766f756368656431" in said and "of its owner" not in said and not visitor.is_verified
+    assert "at epoch 3. These bytes look like a record of an owner, and are not signed as one." in said
+
+
+def test_plain_key(visitor: Visitor) -> None:
+    """A key that is in no record is not green."""
+    visitor.begin()
+    wanted = 'The directory shows: "carol" has the key "key of carol" at epoch 2. No owner vouches for this key.'
+    assert visitor.look("carol").startswith(wanted) and not visitor.is_verified
+
+
+CHANGED = {
+    "plain bytes": b"key of mallory",
+    "another voucher": first(ALICE, KEYS["other"], b"key of mallory"),
+    "no signature": RECORD[:8] + (2).to_bytes(8, "big") + RECORD[16:],
+}
+
+
+@pytest.mark.parametrize("value", CHANGED.values(), ids=CHANGED)
+def test_unvouched_change(visitor: Visitor, value: bytes) -> None:
+    """A key in the place of a record that was shown, which its owner didn't sign, is an alarm. What is kept convicts the directory."""
+    visitor.begin()
+    assert visitor.look("alice").startswith("Verified and stored")
+    visitor.site.confirmed(3, alice=value)
+    said = visitor.look("alice")
+    assert "The owner of the key before did not sign the change: don't use it." in said and not visitor.is_verified
+    assert 'in place of "key of alice" at epoch 3.' in said and "of its owner" not in said
+    for _ in range(2):
+        kind, before, now = texts(visitor.browser, "#alarms pre")[0].split("\n")
+        assert kind == "unvouched" and convicts(POLICY, "alice", bytes.fromhex(before), bytes.fromhex(now))
+        visitor.open()
+    assert visitor.look("bob") and not visitor.is_verified and count(visitor.browser, "#opinions .good") == 0
 
 
 def test_hostile_key(visitor: Visitor) -> None:
     """Markup in a key is text."""
     markup = b"<script>document.title='broken'</script>"
-    visitor.site.commit(3, alice=markup)
+    visitor.site.confirmed(3, dave=markup)
     visitor.begin()
-    assert markup.decode() in visitor.look("alice") and count(visitor.browser, "#result script") == 0
+    assert markup.decode() in visitor.look("dave") and count(visitor.browser, "#result script") == 0
 
 
 LIES: dict[str, tuple[str, Callable[[World, Any], Reply], str]] = {
@@ -234,6 +291,7 @@ def test_equivocation(visitor: Visitor) -> None:
         visitor.site.world = honest
         visitor.open()
     assert '"key of alice"' in visitor.look("alice") and texts(visitor.browser, "#alarms pre") == evidence
+    assert not visitor.is_verified and count(visitor.browser, "#opinions .good") == 0, "nothing is green beside evidence"
 
 
 STALE = hour(2, -3 * 3600)
@@ -242,24 +300,94 @@ NOTES: dict[str, tuple[bytes, list[str], int]] = {
     "another link of one": (note(FORK, 2, "one"), ["signed another chain at epoch 2", "is in no note"], 0),
     "one of two": (note(World(BEGUN), 2, "two"), ["is in no note", "agrees"], 1),
     "another one's key": (note(World(BEGUN), 2, keys={"one": KEYS["other"], "two": KEYS["two"]}), ["is in no note", "agrees"], 1),
+    "the year 2100": (note(World(BEGUN), 2, seconds=4_102_444_800), ["has cosigned epoch 2 for a time that is to come"] * 2, 0),
     "long ago": (note(World(BEGUN), 2, seconds=STALE), ["has cosigned nothing lately"] * 2, 0),
-    "an epoch that is hidden": (note(World([*BEGUN, (3, {})]), 3), ["has seen epoch 3, which the service does not show"] * 2, 0),
+    "an epoch that is hidden": (note(World([*BEGUN, (3, {})]), 3, seconds=hour(3)), ["has seen epoch 3, which the service does not show"] * 2, 0),
     "another directory": (note(World(BEGUN), 2).replace(b"keys.example.com", b"keys.example.net"), ["is in no note"] * 2, 0),
     "no note": (b"<html>", ["is in no note"] * 2, 0),
 }  # fmt: skip
 
 
-@pytest.mark.parametrize("is_stapled", [False, True], ids=["asked for", "stapled"])
+@pytest.mark.parametrize("is_own", [False, True], ids=["of several", "of each"])
 @pytest.mark.parametrize("document, sayings, agreeing", NOTES.values(), ids=NOTES)
-def test_notes(visitor: Visitor, document: bytes, sayings: list[str], agreeing: int, is_stapled: bool) -> None:
-    """An auditor counts only for what its own key cosigned lately of this chain, and one that signed another chain is shown."""
+def test_notes(visitor: Visitor, document: bytes, sayings: list[str], agreeing: int, is_own: bool) -> None:
+    """An auditor counts only for what its own key cosigned lately of this chain. One that signed another chain is an alarm."""
     visitor.begin()
-    visitor.site.note = b"" if is_stapled else document
-    visitor.site.headers = {"Coniks-Note": base64.b64encode(document).decode()} if is_stapled else {}
-    assert visitor.look("alice").startswith("Verified")
+    visitor.site.note = document
+    if is_own:
+        visitor.site.carry(one=document, two=document)
+    assert visitor.look("alice").startswith("The directory shows: ") and not visitor.is_verified
+    assert "at epoch 2, which too few of your auditors confirm." in visitor.result
     assert visitor.opinions[0] == f"{agreeing} of your 2 auditors confirm this chain, and 2 must: rely on nothing new."
     assert [b.startswith(f"{a} {said}") for a, b, said in zip(["one", "two"], visitor.opinions[1:], sayings)] == [True, True]
-    assert count(visitor.browser, "#opinions .agreed") == 0
+    differing = sum("another chain" in it for it in sayings)
+    assert count(visitor.browser, "#opinions .agreed") == 0 and count(visitor.browser, "#alarms > div") == differing
+    visitor.site.note = note(visitor.site.world, 2)
+    visitor.site.lies.pop("/v1/note", None)
+    visitor.look("alice")
+    assert visitor.is_verified is (differing == 0), "an alarm stays"
+
+
+def test_clocks_of_auditors(visitor: Visitor) -> None:
+    """A cosignature counts up to five minutes ahead of the browser's clock."""
+    for seconds, is_good in [(300, True), (301, False)]:
+        visitor.site.note = note(visitor.site.world, 2, seconds=hour(3) + seconds)
+        visitor.begin()
+        assert visitor.look("alice") and visitor.is_verified is is_good
+        visitor.press("forget")
+
+
+def test_own_heads(visitor: Visitor) -> None:
+    """The chain is confirmed up to the latest epoch that enough auditors have cosigned, or a later one, each by its own head."""
+    world = visitor.site.world
+    visitor.begin()
+    visitor.site.commit(3, alice=NEXT)
+    later = visitor.site.world
+    for one, two, epoch in [(3, 2, 2), (2, 3, 2), (3, 3, 3)]:
+        visitor.site.carry(one=note(later, one, "one", seconds=hour(3)), two=note(later, two, "two", seconds=hour(3)))
+        wanted = ['"key of alice"', '"next key"'][epoch - 2]
+        assert wanted in visitor.look("alice") and f"at epoch {epoch}." in visitor.result and visitor.is_verified
+        assert visitor.opinions[0] == f"2 of your 2 auditors confirm this chain up to epoch {epoch}."
+    visitor.site.carry(one=note(world, 2, "one"), two=note(world, 2, "two"))
+    assert '"next key"' in visitor.look("alice") and visitor.is_verified, "what was confirmed once stays so"
+
+
+def test_held_auditors(visitor: Visitor) -> None:
+    """Auditors that are held at an early epoch confirm no later one, however often they cosign it."""
+    visitor.begin()
+    visitor.site.batches += [(it, {}) for it in range(3, 40)]
+    visitor.site.commit(40, alice=NEXT)
+    visitor.now(41)
+    visitor.open()
+    visitor.site.note = note(visitor.site.world, 2, seconds=hour(41))
+    assert '"next key"' in visitor.look("alice") and "at epoch 40, which too few of your auditors confirm." in visitor.result
+    assert not visitor.is_verified and count(visitor.browser, "#opinions .good") == 0
+
+
+def test_lying_auditors(visitor: Visitor) -> None:
+    """How many auditors may lie is the user's to say, and is kept."""
+    names = ["one", "two", "three", "four", "five"]
+    auditors = [str(Auditor(it, bytes(KEYS[it].verify_key))) for it in names]
+    visitor.site.note = note(visitor.site.world, 2, *names[:3])
+    visitor.begin(client_world.POLICY, *auditors, faulty="1")
+    for _ in range(2):
+        assert visitor.look("alice") and not visitor.is_verified
+        assert visitor.opinions[0] == "3 of your 5 auditors confirm this chain, and 4 must: rely on nothing new."
+        visitor.open()
+        assert visitor.browser.value("document.getElementById('lying').value") == "1"
+    assert "more than three auditors are needed for each one that may lie" in visitor.press("trust", lying="2")
+    visitor.press("trust", lying="0")
+    assert visitor.opinions[0] == "3 of your 5 auditors confirm this chain up to epoch 2."
+    assert visitor.look("alice") and visitor.is_verified
+
+
+def test_no_auditors(visitor: Visitor) -> None:
+    """Without auditors nothing is green."""
+    visitor.open()
+    visitor.press("start", policy=client_world.POLICY, auditors="", faulty="0")
+    assert visitor.opinions == ["No auditor is named, so nobody notices if others are shown another chain."]
+    assert "at epoch 2, which no auditor confirms." in visitor.look("alice") and not visitor.is_verified
+    assert count(visitor.browser, "#opinions .good") == 0 and not visitor.shows("trusting")
 
 
 def test_late_service(visitor: Visitor) -> None:
@@ -336,21 +464,21 @@ def test_two_tabs(visitor: Visitor) -> None:
     visitor.now(3)
     try:
         visitor.open()
-        visitor.site.commit(3, alice=b"next key")
-        assert '"next key" at epoch 3' in visitor.look("alice")
+        visitor.site.confirmed(3, alice=NEXT)
+        assert '"next key" in record 2 of its owner at epoch 3' in visitor.look("alice")
         second = driver.current_window_handle
         visitor.site.batches.pop()
         visitor.site.world = World(visitor.site.batches)
         driver.switch_to.window(first)
         assert "shows an older chain than before" in visitor.look("alice"), "the other tab has seen a later one"
-        visitor.site.commit(3, alice=b"next key")
+        visitor.site.confirmed(3, alice=NEXT)
         for tab in [first, second] * 3:
             driver.switch_to.window(tab)
             visitor.browser.value("document.getElementById('name').value = 'alice'; document.getElementById('look').click(); 1")
         for tab in [first, second]:
             driver.switch_to.window(tab)
             visitor.browser.until(DONE)
-            assert '"next key" at epoch 3' in visitor.result
+            assert '"next key" in record 2 of its owner at epoch 3' in visitor.result
         driver.close()
     finally:
         driver.switch_to.window(first)
@@ -363,14 +491,14 @@ def test_slow_tab(visitor: Visitor) -> None:
     def once(query: Any) -> Reply:
         reply = Reply(visitor.site.world.reply("alice", 2))
         del visitor.site.lies["/v1/lookup"]
-        visitor.site.commit(3, alice=b"next key")
+        visitor.site.confirmed(3, alice=NEXT)
         return reply
 
     visitor.site.lies["/v1/lookup"] = once
     found = visitor.browser.value(
         """(async () => {
             const coniks = await coniks_.Coniks.of(bytes_.fromBase64(document.getElementById('module').textContent.trim()));
-            const ask = async target => { const found = await fetch(target); return { status: found.status, note: '', body: new Uint8Array(await found.arrayBuffer()) }; };
+            const ask = async target => { const found = await fetch(target); return { status: found.status, body: new Uint8Array(await found.arrayBuffer()) }; };
             const other = new following_.Follower(coniks, keeping_.browserStore, ask);
             let isFirst = true;
             const slow = new following_.Follower(coniks, keeping_.browserStore, async target => {

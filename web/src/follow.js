@@ -6,8 +6,7 @@ import { drawingOf } from "./draw.js";
 import { element, hashButton, nameBox } from "./elements.js";
 import { Follower, Unusable } from "./following.js";
 import { browserStore } from "./keeping.js";
-import { quorum } from "./notes.js";
-import { recordIn } from "./records.js";
+import { readRecord } from "./vouching.js";
 import { counting, keyText } from "./words.js";
 
 /** Entries that are shown, the latest first, and milliseconds that a request may take. */
@@ -36,7 +35,7 @@ async function asked(target, most) {
       size += next.value.length;
       if (size > most) throw new RangeError(`a reply has more than ${most} bytes`);
     }
-    return { status: found.status, note: found.headers.get("Coniks-Note") ?? "", body: new Uint8Array(await new Blob(parts).arrayBuffer()) };
+    return { status: found.status, body: new Uint8Array(await new Blob(parts).arrayBuffer()) };
   } catch (error) {
     throw new Unusable(`the service gives no reply: ${/** @type {Error} */ (error).message}`);
   }
@@ -54,50 +53,85 @@ function refused(error) {
 
 // What is shown. Each call is made after what it shows was stored.
 
-/** @type {Record<import("./following.js").Opinion["says"], (epoch: bigint | null) => string>} */
+/** @type {Record<import("./confirming.js").Opinion["says"], (epoch: bigint | null) => string>} */
 const SAYINGS = {
   agrees: (epoch) => `agrees with this chain up to epoch ${epoch}`,
   differs: (epoch) => `signed another chain at epoch ${epoch}: the directory or this auditor lies. Rely on nothing new, and ask the auditor for its entries`,
   ahead: (epoch) => `has seen epoch ${epoch}, which the service does not show here`,
+  later: (epoch) => `has cosigned epoch ${epoch} for a time that is to come, which does not count: its clock is wrong, or yours`,
   late: (epoch) => `has cosigned nothing lately, and epoch ${epoch} at last`,
   nothing: () => "is in no note that the service has: rely on its word only if you ask it yourself",
 };
 
-/** @param {import("./following.js").Opinion[]} opinions */
-function showOpinions(opinions) {
-  const agreeing = opinions.filter((it) => it.says === "agrees").length;
-  const [count, least] = [opinions.length, quorum(opinions.length)];
-  const isAgreed = count > 0 && agreeing >= least && opinions.every((it) => it.says !== "differs");
-  const sum = count === 0
-    ? "No auditor is named, so nobody notices if others are shown another chain."
-    : `${agreeing} of your ${counting(count, "auditor")} confirm this chain${isAgreed ? "." : `, and ${least} must: rely on nothing new.`}`;
-  const items = opinions.map(({ name, says, epoch }) => element("li", says === "agrees" ? "good" : "bad", element("code", "name", name), ` ${SAYINGS[says](epoch)}`));
-  part("opinions").replaceChildren(element("li", isAgreed ? "good agreed" : "bad", sum), ...items);
+/** @param {import("./confirming.js").Agreement} agreement @returns {string} */
+function sumOf({ epoch, least, opinions }) {
+  if (least === 0) return "No auditor is named, so nobody notices if others are shown another chain.";
+  const count = counting(opinions.length, "auditor");
+  const agreeing = opinions.filter((it) => it.says === "agrees" && (epoch === null || /** @type {bigint} */ (it.epoch) >= epoch)).length;
+  if (epoch === null) return `${agreeing} of your ${count} confirm this chain, and ${least} must: rely on nothing new.`;
+  return `${agreeing} of your ${count} confirm this chain up to epoch ${epoch}.`;
 }
 
-/** What a name has: its key, which may be in a record of its owner. @param {Uint8Array | null} key @returns {(string | HTMLElement)[]} */
-function keyWords(key) {
-  if (key === null) return ["no key"];
-  const record = recordIn(key);
-  const shown = element("code", "key", keyText(record?.key ?? key, 400));
-  return ["the key ", shown, ...(record ? [` in record ${record.number} of its owner`] : [])];
+/** @param {{agreement: import("./confirming.js").Agreement, isAlarmed: boolean}} it */
+function showOpinions({ agreement, isAlarmed }) {
+  const good = isAlarmed ? "" : "good";
+  const items = agreement.opinions.map(({ name, says, epoch }) => element("li", says === "agrees" ? good : "bad", element("code", "name", name), ` ${SAYINGS[says](epoch)}`));
+  const isAgreed = agreement.epoch !== null && !isAlarmed;
+  part("opinions").replaceChildren(element("li", isAgreed ? "good agreed" : "bad", sumOf(agreement)), ...items);
 }
 
-/** @param {Awaited<ReturnType<Follower["lookup"]>>} found */
-function showFound({ name, key, epoch, path, opinions }) {
+/** @typedef {Awaited<ReturnType<Follower["lookup"]>>} Found */
+
+/** What a name has: its key, which may be in a record of its owner. @param {Found} found @returns {(string | HTMLElement)[]} */
+function keyWords({ key, isRecord, change, before }) {
+  if (key === null) return [before === null ? "no key" : "no key any more, and no directory removes a name"];
+  const record = isRecord ? readRecord(key) : null;
+  // Another voucher than before is nobody's word that the owner is the same.
+  const whose = record !== null && change !== "unvouched" ? [` in record ${record.number} of its owner`] : [];
+  const words = ["the key ", element("code", "key", keyText(record?.key ?? key, 400)), ...whose];
+  const old = before === null ? null : readRecord(before);
+  if (old === null || change === "same") return words;
+  return [...words, " in place of ", element("code", "key", keyText(old.key, 400)), ...(change === "vouched" ? [", and its owner signed the change"] : [])];
+}
+
+/** What is said of a key on which the user can't rely, beside its epoch. @param {Found} found @returns {string} */
+function doubts({ key, isRecord, change, agreement, isAlarmed }) {
+  const unconfirmed = agreement.least === 0 ? ", which no auditor confirms" : ", which too few of your auditors confirm";
+  const why = [agreement.epoch === null ? `${unconfirmed}.` : "."];
+  if (change === "unvouched" && key !== null) why.push("The owner of the key before did not sign the change: don't use it.");
+  else if (key !== null && !isRecord) why.push(readRecord(key) === null ? "No owner vouches for this key." : "These bytes look like a record of an owner, and are not signed as one.");
+  if (isAlarmed) why.push("Something was found that you must see, above: rely on nothing new.");
+  return why.join(" ");
+}
+
+/** @param {Found} found */
+function showFound(found) {
+  const { name, key, epoch, path, change, isGood } = found;
   const drawing = drawingOf({ index: path.index, indexIs: "verified", verdict: { key } }, path);
   const details = element("details", "lookup authentic", element("summary", "", "The authentication path"), drawing);
-  part("result").replaceChildren(element("p", "good found", "Verified and stored: ", nameBox(name), " has ", ...keyWords(key), ` at epoch ${epoch}.`), details);
-  showOpinions(opinions);
+  const words = [nameBox(name), " has ", ...keyWords(found), ` at epoch ${epoch}`, isGood ? "." : doubts(found)];
+  const kind = isGood ? "good found" : change === "unvouched" ? "bad found" : "found";
+  part("result").replaceChildren(element("p", kind, isGood ? "Verified and stored: " : "The directory shows: ", ...words), details);
+  showOpinions(found);
+}
+
+/** What is said of something that the user must see. @param {import("./following.js").Alarm} alarm @returns {(string | HTMLElement)[]} */
+function alarmWords({ kind, who }) {
+  if (kind === "head") return ["The auditor ", element("code", "name", who), " cosigned another chain: the directory or this auditor lies. This convicts nobody alone. Rely on nothing new, and ask the auditor for its entries:"];
+  if (kind === "unvouched") return ["Two replies for ", nameBox(who), " convict this directory: the owner of the key in the first did not sign what the second shows. Keep them, and publish them:"];
+  return ["Two entries that this directory signed convict it. Keep them, and publish them:"];
 }
 
 /** @param {NonNullable<Awaited<ReturnType<Follower["view"]>>>} view */
-function showView({ origin, begun, found, entries }) {
+function showView({ origin, begun, found, entries, count, faulty }) {
   part("origin").textContent = origin;
-  part("alarms").replaceChildren(...found.map(({ kind, mine, other }) => {
-    const text = element("pre", "", `${kind}\n${mine}\n${other}`);
-    return element("div", "contradiction", element("p", "bad", "Two entries that this directory signed convict it. Keep them, and publish them:"), text);
+  part("alarms").replaceChildren(...found.map((it) => {
+    const text = element("pre", "", [it.kind, ...it.parts].join("\n"));
+    return element("div", "contradiction", element("p", "bad", ...alarmWords(it)), text);
   }));
+  part("lying").value = String(faulty);
+  part("count").textContent = counting(count, "auditor");
+  part("trusting").hidden = count === 0;
   const epochs = entries.map((it) => new DataView(it.buffer).getBigUint64(1));
   const span = epochs.length > 0 ? `, epochs ${epochs[0]} to ${epochs[epochs.length - 1]}` : "";
   part("since").textContent = `Since ${timeText(begun)} (UTC): ${counting(entries.length, "entry", "entries")}${span}. Each is signed, and has the link of the one before.`;
@@ -141,10 +175,22 @@ async function tried(call) {
   setBusy(false);
 }
 
+/** @param {string} field @returns {number} how many auditors may lie, as a field says */
+function numberIn(field) {
+  const text = part(field).value.trim();
+  if (!/^[0-9]{1,3}$/.test(text)) throw new RangeError("how many auditors may lie is a number in digits");
+  return Number(text);
+}
+
+async function trust() {
+  await follower.trust(numberIn("lying"));
+  showOpinions(await follower.follow());
+}
+
 async function start() {
   // A document ends with a line's end, which a copy often lacks.
   const keys = part("auditors").value.split("\n").map((/** @type {string} */ it) => it.trim()).filter(Boolean);
-  await follower.begin(`${part("policy").value.trim()}\n`, keys);
+  await follower.begin(`${part("policy").value.trim()}\n`, keys, numberIn("faulty"));
   showOpinions(await follower.follow());
 }
 
@@ -158,6 +204,7 @@ export async function begin() {
   part("start").addEventListener("click", () => tried(start));
   part("look").addEventListener("click", () => tried(async () => showFound(await follower.lookup(part("name").value))));
   part("compare").addEventListener("click", () => tried(async () => showOpinions(await follower.follow())));
+  part("trust").addEventListener("click", () => tried(trust));
   part("forget").addEventListener("click", () => tried(forget));
   part("name").addEventListener("keydown", (/** @type {KeyboardEvent} */ it) => {
     if (it.key === "Enter" && !part("look").disabled) part("look").click();

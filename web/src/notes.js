@@ -13,6 +13,8 @@ import { sha256 } from "./sha256.js";
  * @typedef {{text: string, lines: string[]}} Note
  */
 
+/** The most seconds by which an auditor's clock may be ahead. */
+export const SKEW = 300n;
 /** The type of tlog-cosignature. */
 const COSIGNATURE = 4;
 const AUDITOR = /^([!-*,-~]{1,255})\+([0-9a-f]{8})\+([A-Za-z0-9+/=]+)$/;
@@ -77,24 +79,30 @@ export function headOf({ text }, policy) {
 }
 
 /**
- * When an auditor cosigned a note, in Unix seconds: at last, if it has several lines of it, and null if it did not.
+ * When an auditor cosigned a note, in Unix seconds: once for each of its lines.
  * @param {Note} note @param {Auditor} auditor
- * @returns {Promise<bigint | null>}
+ * @returns {Promise<bigint[]>}
  */
-export async function cosignedAt({ text, lines }, { name, id, isSigned }) {
-  let latest = null;
+export async function timesOf({ text, lines }, { name, id, isSigned }) {
+  const times = [];
   for (const line of lines) {
     const [, named, encoded] = LINE.exec(line) ?? ["", "", ""];
     const data = named === name ? fromBase64(encoded) : null;
     if (data === null || data.length !== 76 || !isSame(data.slice(0, 4), id)) continue;
     const time = new DataView(data.buffer).getBigUint64(4);
-    const isIts = await isSigned(utf8.encode(`cosignature/v1\ntime ${time}\n${text}`), data.slice(12));
-    if (isIts && (latest === null || time > latest)) latest = time;
+    if (await isSigned(utf8.encode(`cosignature/v1\ntime ${time}\n${text}`), data.slice(12))) times.push(time);
   }
-  return latest;
+  return times;
 }
 
-/** Returns the size of a quorum of the auditors: two quorums share an auditor. @param {number} auditors @returns {number} */
-export function quorum(auditors) {
-  return Math.floor(auditors / 2) + 1;
+/**
+ * Returns how many of n auditors must agree, if at most f of them lie or are silent: the least k with 2k > n + f. More than f are in
+ * any two quorums.
+ * @param {number} auditors @param {number} faulty
+ * @returns {number}
+ */
+export function quorum(auditors, faulty) {
+  const isPossible = Number.isInteger(faulty) && faulty >= 0 && 3 * faulty < auditors;
+  if (!isPossible) throw new RangeError("more than three auditors are needed for each one that may lie");
+  return Math.floor((auditors + faulty) / 2) + 1;
 }

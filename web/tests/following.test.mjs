@@ -2,10 +2,11 @@
 
 import { test } from "node:test";
 
+import { agreementOf } from "../src/confirming.js";
 import { canonical } from "../src/names.js";
-import { cosignedAt, headOf, quorum, readAuditor, readNote } from "../src/notes.js";
+import { headOf, quorum, readAuditor, readNote, timesOf } from "../src/notes.js";
 import { readPolicy } from "../src/policy.js";
-import { recordIn } from "../src/records.js";
+import { isSigned, judged, readRecord } from "../src/vouching.js";
 import { data, read, same, textBytes, throwing } from "../telling.mjs";
 
 const formats = read("docs/FORMATS.md");
@@ -37,10 +38,10 @@ test("the form of names", async () => {
 test("the example of a note", async () => {
   const [note, auditor] = [readNote(textBytes(document)), await readAuditor(KEY)];
   same("its head", headOf(note, policy), { epoch: 2, link: "f72cc5a2363af0cbc2aa09c4805f075c51d4490f0d94dd910aefdbcce1b61589" });
-  same("when it was cosigned", await cosignedAt(note, auditor), 1767230000);
-  same("by another name", await cosignedAt(note, { ...auditor, name: "audit.example.net" }), null);
-  same("by another key", await cosignedAt(note, { ...auditor, id: auditor.id.map((it) => it ^ 1) }), null);
-  same("with a line of nobody", await cosignedAt({ ...note, lines: ["\u2014 audit.example.org AAAA", ...note.lines] }, auditor), 1767230000);
+  same("when it was cosigned", await timesOf(note, auditor), [1767230000]);
+  same("by another name", await timesOf(note, { ...auditor, name: "audit.example.net" }), []);
+  same("by another key", await timesOf(note, { ...auditor, id: auditor.id.map((it) => it ^ 1) }), []);
+  same("with a line of nobody", await timesOf({ ...note, lines: ["\u2014 audit.example.org AAAA", ...note.lines] }, auditor), [1767230000]);
 });
 
 test("notes that were changed", async () => {
@@ -48,8 +49,8 @@ test("notes that were changed", async () => {
   const whole = textBytes(document);
   for (let at = 0; at < whole.length; at++) {
     const changed = whole.map((it, i) => (i === at ? it ^ 1 : it));
-    const time = await Promise.resolve(changed).then(readNote).then((it) => cosignedAt(it, auditor)).catch(() => null);
-    same(`byte ${at} is another one`, time, null);
+    const time = await Promise.resolve(changed).then(readNote).then((it) => timesOf(it, auditor)).catch(() => []);
+    same(`byte ${at} is another one`, time, []);
   }
   const note = readNote(whole);
   for (const [from, to] of [["\n2\n", "\n02\n"], ["\n2\n", "\n18446744073709551616\n"], ["keys.example.com", "keys.example.net"], ["FYk=", "FYl="], ["FYk=\n", "FYk=\nmore\n"]]) {
@@ -60,18 +61,49 @@ test("notes that were changed", async () => {
   await throwing("no UTF-8", () => readNote(Uint8Array.of(255)), "BadNote");
 });
 
-test("records of owners", () => {
-  const records = example("Keys that their owners vouch for", "766f7563").split("\n\n").map((it) => data(it.replace(/\s/g, "")));
-  same("the examples", records.map(recordIn), [{ number: 1, key: "6b" }, { number: 2, key: "6c" }]);
-  const [first] = records;
-  const others = [first.slice(0, -1), first.map((it, i) => (i === 7 ? it ^ 1 : it)), first.map((it, i) => (i >= 16 && i < 48 ? 0 : it)), textBytes("vouched1"), new Uint8Array(0)];
-  same("no records", others.map(recordIn), [null, null, null, null, null]);
+const [record, next] = example("Keys that their owners vouch for", "766f7563").split("\n\n").map((it) => data(it.replace(/\s/g, "")));
+const place = { policy: policy.digest, name: "alice" };
+
+/** A copy with another byte at a place. @param {Uint8Array} bytes @param {number} at @param {number} value */
+const changed = (bytes, at, value) => bytes.map((it, i) => (i === at ? value : it));
+
+test("records of owners", async () => {
+  const read = [record, next].map(readRecord);
+  same("the examples", read.map((it) => it && { number: it.number, key: it.key }), [{ number: 1, key: "6b" }, { number: 2, key: "6c" }]);
+  for (const it of read) same("their signatures", it && (await isSigned(it, place)), true);
+  for (const other of [{ ...place, name: "bob" }, { ...place, policy: new Uint8Array(32) }]) same("elsewhere", read[0] && (await isSigned(read[0], other)), false);
+  for (const at of [15, 50, 90, 144]) {
+    const altered = readRecord(changed(record, at, record[at] ^ 1));
+    same(`byte ${at} is another one`, altered && (await isSigned(altered, place)), false);
+  }
+  const others = [record.slice(0, -1), changed(record, 7, 0), record.map((it, i) => (i >= 16 && i < 48 ? 0 : it)), textBytes("vouched1"), new Uint8Array(0), null];
+  same("no records", others.map(readRecord), [null, null, null, null, null, null]);
+});
+
+test("what bytes are to those before", async () => {
+  // The table of docs/FORMATS.md, row by row, and what it doesn't let pass.
+  const plain = textBytes("k");
+  const skipped = changed(next, 15, 3);
+  for (const [before, now, wanted] of [[record, record, "same"], [plain, plain, "same"], [record, null, "unvouched"], [plain, null, "unvouched"], [plain, record, "unknown"], [plain, textBytes("l"), "unknown"], [record, plain, "unvouched"], [next, record, "unvouched"], [record, changed(next, 60, next[60] ^ 1), "unvouched"], [record, next, "vouched"], [record, changed(next, 144, 1), "unvouched"], [record, skipped, "unvouched"]]) {
+    same(`after ${before} ${now}`, await judged(place, /** @type {any} */ (before), /** @type {any} */ (now)), wanted);
+  }
+  same("another name's", await judged({ ...place, name: "bob" }, record, next), "unvouched");
+});
+
+test("up to which epoch auditors confirm", () => {
+  const heads = (/** @type {any[]} */ ...epochs) => epochs.map((it) => ({ name: "", note: "", says: typeof it === "bigint" ? "agrees" : it, epoch: typeof it === "bigint" ? it : 9n }));
+  // Each auditor confirms up to its own head. Of n, of whom f may lie, the least k with 2k > n + f.
+  for (const [opinions, faulty, epoch] of [
+    [heads(4n, 5n), 0, 4], [heads(5n, "nothing"), 0, null], [heads(2n, 7n, 5n), 0, 5], [heads(2n, 7n, "late"), 0, 2], [heads("ahead", 7n, "later"), 0, null],
+    [heads(1n, 2n, 3n, 4n), 1, 2], [heads(1n, 2n, 3n, "differs"), 1, 1], [heads(1n, 2n, 3n, 4n, 5n), 0, 3], [heads(1n, 2n, 3n, 4n, 5n), 1, 2], [[], 0, null],
+  ]) same("the epoch", agreementOf(/** @type {any} */ (opinions), /** @type {any} */ (faulty)).epoch, epoch);
 });
 
 test("keys of auditors", async () => {
   // The verifier key in the documentation of golang.org/x/mod/sumdb/note signs texts, and cosigns nothing.
   const others = ["PeterNeumann+c74f20a3+ARpc2QcUPDhMQegwxbzhKqiBfsVkmqq/LDE4izWy10TW", "", "a+b", KEY.toUpperCase(), KEY.replace("8ba082b9", "8ba082b8"), ` ${KEY}`];
   for (const wrong of [...others, KEY.replace("audit", "au dit"), `${KEY}AAAA`]) await throwing(`no key: ${wrong}`, () => readAuditor(wrong), "BadNote");
-  // The least k with 2k > n: two groups of k of n share one.
-  for (const [count, least] of [[2, 2], [3, 2], [4, 3], [5, 3], [7, 4]]) same(`a quorum of ${count}`, quorum(count), least);
+  // The least k with 2k > n + f: two groups of k of n share more than f.
+  for (const [count, faulty, least] of [[2, 0, 2], [3, 0, 2], [4, 0, 3], [4, 1, 3], [5, 1, 4], [7, 1, 5], [7, 2, 5]]) same(`a quorum of ${count}`, quorum(count, faulty), least);
+  for (const [count, faulty] of [[0, 0], [2, 1], [3, 1], [6, 2], [4, -1], [4, 0.5]]) await throwing(`no quorum of ${count}, ${faulty}`, () => quorum(count, faulty), "RangeError");
 });
