@@ -31,7 +31,12 @@ PAGE, SPAN = 1000, 1000
 # The most seconds that a request waits for its receipt.
 LONGEST_WAIT = 20
 # The parameters of those routes that have some.
-_PARAMETERS = {"/v1/entries": ["after"], "/v1/lookup": ["name", "epoch"], "/v1/history": ["name", "first", "last"]}
+_PARAMETERS = {
+    "/v1/note": ["auditor"],
+    "/v1/entries": ["after"],
+    "/v1/lookup": ["name", "epoch"],
+    "/v1/history": ["name", "first", "last"],
+}
 _FOR_EVER = "max-age=31536000, immutable"
 
 
@@ -123,8 +128,9 @@ class Endpoints:
         return json_reply({"epoch": epoch_of(entry), "link": link_of(entry).hex(), "entry": entry.hex()})
 
     async def note(self, request: web.Request) -> web.Response:
-        if not (note := self._stapler.note):
-            raise Problem(404, "NoNote", "no auditor has cosigned a head yet")
+        name = request["query"].get("auditor")
+        if not (note := self._stapler.note if name is None else self._stapler.note_of(name)):
+            raise Problem(404, "NoNote", "no auditor has cosigned a head yet" if name is None else "this auditor has cosigned no head")
         return reply(bytes(note), TEXT)
 
     async def entries(self, request: web.Request) -> web.Response:

@@ -60,3 +60,9 @@ class Stapler:
         agreed = [epoch for epoch, (_, lines) in self._kept.items() if len(lines) >= least]
         text, lines = self._kept.get(max(agreed or self._kept, default=0), ("", {}))
         return Note(text, tuple(lines.values())) if lines else None
+
+    def note_of(self, name: str) -> Optional[Note]:
+        """The latest head that the auditor of a name cosigned."""
+        urls = [url for url, it in self._auditors.items() if it.name == name]
+        own = {epoch: Note(text, (lines[url],)) for epoch, (text, lines) in self._kept.items() for url in urls if url in lines}
+        return own[max(own)] if own else None

@@ -65,6 +65,8 @@ def test_cosigned_lookups(other: Running, audited: list[Auditing]) -> None:
     assert client.lookup("alice", reply.body, int.from_bytes(reply.body[2:10], "big")).key == b"key"
     assert len(note.times(trusted)) >= quorum(AUDITORS, 1) == 3
     assert read_note(other.get("/v1/note").body).head(policy).epoch >= note.head(policy).epoch
+    own = read_note(other.get(f"/v1/note?auditor={trusted[0].name}").body)
+    assert own.times(trusted).keys() == {trusted[0].name} and other.get("/v1/note?auditor=nobody").fault == "NoNote"
     assert not any(it.alarms() for it in audited), "honest auditors that ask at different times"
     assert b'coniks_auditor_failures{auditor="' in other.get("/metrics").body
     stop_one(other, audited, trusted, policy)
@@ -109,3 +111,6 @@ def test_stapled_notes(program: str, tmp_path: Path) -> None:
         stapler._take("http://3", note(3, 3, links[3]))
         assert stapler.note and stapler.note.head(holder.keys.policy) == Head(1, links[1])
         assert len(stapler.note.times(auditors.values())) == 3
+        own = {name: stapler.note_of(name) for name in ["audit0", "audit3", "audit4"]}
+        heads = {name: it and (it.head(holder.keys.policy).epoch, [*it.times(auditors.values())]) for name, it in own.items()}
+        assert heads == {"audit0": (1, ["audit0"]), "audit3": (3, ["audit3"]), "audit4": None}
