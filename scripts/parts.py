@@ -366,6 +366,11 @@ PAGES = [
         ["--points", "50"],
     ),
     Part(
+        "the form of names",
+        [*package("names", "_folding"), "web/src/names.js", "web/src/folding.js", "web/build"],
+        ["web/page_tests/test_names.py"],
+    ),
+    Part(
         "the page that follows a service",
         ["web/follow.html", "web/src/*", *OF_PAGES],
         ["web/page_tests/test_follow.py"],

@@ -1,5 +1,7 @@
 // The form of names, which a service and its clients share (coniks.names): Unicode NFC, without case.
 
+import { FOLDED } from "./folding.js";
+
 const LONGEST = 255;
 
 /** What no name has: control characters, lone surrogates, and code points that a later version of Unicode may give another form. */
@@ -7,8 +9,11 @@ const REFUSED = /[\p{Cc}\p{Cs}\p{Cn}]/u;
 
 /** A character without case, as Unicode folds it. @param {string} it @returns {string} */
 function folded(it) {
-  if (it === "\u0131") return it;
-  return /\p{Script=Cherokee}/u.test(it) ? it.toUpperCase() : it.toUpperCase().toLowerCase();
+  const code = /** @type {number} */ (it.codePointAt(0));
+  const row = FOLDED.find(([first, last]) => first.charCodeAt(0) <= code && code <= last.charCodeAt(0));
+  if (row === undefined) return it.toUpperCase().toLowerCase();
+  const [first, , to] = row;
+  return to.slice(0, -1) + String.fromCharCode(to.charCodeAt(to.length - 1) + code - first.charCodeAt(0));
 }
 
 /**

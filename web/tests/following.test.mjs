@@ -26,7 +26,7 @@ const KEY = /** @type {string[]} */ (/Its verifier key is `(.*)`/.exec(formats))
 test("the form of names", async () => {
   // Unicode: NFC, and case folding that changes the length, the final sigma, the dotless i, and letters whose folded form is upper.
   const forms = [["Alice", "alice"], ["e\u0301", "\u00e9"], ["Stra\u00dfe", "strasse"], ["\u0391\u03a3", "\u03b1\u03c3"], ["\u03c2", "\u03c3"], ["\u0131", "\u0131"]];
-  for (const [given, wanted] of [...forms, ["\u0130", "i\u0307"], ["\uab70", "\u13a0"], ["\u13f8", "\u13f0"], ["\u01c5", "\u01c6"], ["a b+%", "a b+%"]]) {
+  for (const [given, wanted] of [...forms, ["\u0130", "i\u0307"], ["\u1e9e", "ss"], ["\uab70", "\u13a0"], ["\u13f8", "\u13f0"], ["\u01c5", "\u01c6"], ["a b+%", "a b+%"]]) {
     same(`the form of ${given}`, canonical(given), wanted);
     same(`the form of ${wanted}`, canonical(wanted), wanted);
   }

@@ -4,6 +4,8 @@ from __future__ import annotations
 
 import unicodedata
 
+from ._folding import FOLDED
+
 __all__ = ["BadName", "canonical", "shown"]
 
 LONGEST = 255
@@ -15,13 +17,21 @@ class BadName(ValueError):
     """Text that is no name."""
 
 
+def _folded(character: str) -> str:
+    """A character without case, as Unicode folds it."""
+    for first, last, folded in FOLDED:
+        if first <= character <= last:
+            return folded[:-1] + chr(ord(folded[-1]) + ord(character) - ord(first))
+    return character.upper().lower()
+
+
 def canonical(text: str) -> str:
     """Returns the one form of a name: Unicode NFC, without case. It has 1 to 255 bytes of UTF-8. Raises `BadName` for text with a lone
     surrogate, a control character or an unassigned code point."""
     if any(unicodedata.category(it) in _REFUSED for it in text):
         raise BadName("a name is Unicode without control characters, unassigned code points and lone surrogates")
     # Canonical caseless matching (Unicode, D145), and then NFC.
-    name = unicodedata.normalize("NFC", unicodedata.normalize("NFD", text).casefold())
+    name = unicodedata.normalize("NFC", "".join(map(_folded, unicodedata.normalize("NFD", text))))
     if not 1 <= len(name.encode()) <= LONGEST:
         raise BadName(f"a name has 1 to {LONGEST} bytes in its form NFC without case")
     return name
