@@ -130,7 +130,9 @@ class Endpoints:
     async def note(self, request: web.Request) -> web.Response:
         name = request["query"].get("auditor")
         if not (note := self._stapler.note if name is None else self._stapler.note_of(name)):
-            raise Problem(404, "NoNote", "no auditor has cosigned a head yet" if name is None else "this auditor has cosigned no head")
+            raise Problem(
+                404, "NoNote", "no auditor has cosigned a head yet" if name is None else "this auditor has cosigned no head"
+            )
         return reply(bytes(note), TEXT)
 
     async def entries(self, request: web.Request) -> web.Response:

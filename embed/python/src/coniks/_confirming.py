@@ -104,9 +104,12 @@ class Confirming:
         seconds = note.times([auditor], until).get(auditor.name)
         if seconds is not None and seconds >= since:
             return
+        if seconds is None and note.times([auditor]):
+            raise BadNote(
+                f"{auditor.name} has cosigned for a time that is to come, which does not count: its clock is wrong, or yours"
+            )
         if seconds is None and any(line.split(" ")[1] == auditor.name for line in note.lines):
-            text = f"{auditor.name} signs with another key than the one that you named, or for a later time: ask it for its key"
-            raise BadNote(text)
+            raise BadNote(f"{auditor.name} signs with another key than the one that you named: ask it for its key")
         raise BadNote(f"{auditor.name} has cosigned no head lately")
 
     def _search(self, url: str) -> None:

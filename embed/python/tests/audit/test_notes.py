@@ -6,6 +6,7 @@ import base64
 import hashlib
 import random
 import re
+import time
 from itertools import combinations
 from pathlib import Path
 
@@ -161,6 +162,11 @@ def test_agreed() -> None:
     assert not is_agreed(cosigned(0, 1), four, 1, since=1000) and not is_agreed(cosigned(0, 1, 1, 0), four, 1, since=1000)
     assert not is_agreed(cosigned(0, 1, 5, 6), four, 1, since=1000), "strangers count for nothing"
     assert not is_agreed(cosigned(0, 1, 2), four, 1, since=1001), "an old cosignature counts for nothing"
+    for ahead, counts in [(300, True), (301, False)]:
+        assert is_agreed(cosigned(0, 1, 2, seconds=1000 + ahead), four, 1, since=1000, until=1300) is counts
+    now = int(time.time())
+    assert is_agreed(cosigned(0, 1, 2, seconds=now + 240), four, 1, since=now), "a clock may be ahead"
+    assert not is_agreed(cosigned(0, 1, 2, seconds=4_102_444_800), four, 1, since=now), "the year 2100 is to come"
     for listed in [[*four, four[0]], [*four, Auditor("audit9", four[0].key)]]:
         with pytest.raises(ValueError):
             is_agreed(cosigned(0, 1, 2), listed, 1, since=0)

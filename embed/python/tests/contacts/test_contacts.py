@@ -885,6 +885,19 @@ def test_another_key_of_an_auditor(
     assert status == 3 and "two signs with another key" in lines[0]["text"]
 
 
+def test_clocks_of_auditors(
+    tmp_path: Path, capsys: pytest.CaptureFixture[str], directory: Directory, auditors: list[Auditing], clock: Clock
+) -> None:
+    """A cosignature of a time more than five minutes ahead does not count, and is told."""
+    it = Person(tmp_path, capsys)
+    it.begin(directory, auditors[0].pair, auditors[1].pair)
+    for ahead, is_told in [(300, False), (301, True), (4_102_444_800, True)]:
+        auditors[1].sign(2, clock() + ahead)
+        status, lines = it.run("compare")
+        assert status == (3 if is_told else 0), lines
+        assert ("two has cosigned for a time that is to come" in lines[0]["text"]) is is_told
+
+
 def test_unconfirmed_epochs(
     tmp_path: Path, capsys: pytest.CaptureFixture[str], directory: Directory, auditors: list[Auditing], clock: Clock
 ) -> None:
