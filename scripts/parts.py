@@ -379,7 +379,7 @@ PAGES = [
     ),
     Part(
         "the page over a service",
-        ["web/follow.html", "web/src/follow*.js", "web/src/notes.js", "examples/service/**", *OF_PAGES],
+        ["web/follow.html", "web/src/follow*.js", "web/src/confirming.js", "web/src/notes.js", "examples/service/**", *OF_PAGES],
         ["web/page_tests/test_follow_service.py"],
         library=True,
         module=True,
