@@ -93,6 +93,9 @@ def rewrite(path: Path, data: bytes, mode: int = 0o644, may: Callable[[], bool] 
     new = f"{os.fspath(path)}.new"
     with suppress(FileNotFoundError):
         # A process that was killed left it. Its rights may be others.
+        if not os.path.islink(new):
+            with opened_at(new, os.O_RDONLY, "r") as rest:
+                check_rest(rest.fileno(), data[:8], new)
         os.unlink(new)
     with open(new, "xb", opener=lambda it, flags: os.open(it, flags, mode)) as file:
         file.write(data)
@@ -107,13 +110,26 @@ def rewrite(path: Path, data: bytes, mode: int = 0o644, may: Callable[[], bool] 
     return True
 
 
+def is_rest(head: bytes, begin: bytes) -> bool:
+    """Whether a file that begins with `head`, or is no longer than that, is the rest of one that begins with `begin`. A power failure can
+    have cut it, or left zeros."""
+    written = head[: len(begin)].rstrip(b"\0")
+    return begin.startswith(written)
+
+
+def check_rest(file: int, begin: bytes, path: str) -> None:
+    """Raises `FileExistsError` if a file isn't the rest of one that begins with these bytes: it is somebody else's."""
+    if os.fstat(file).st_size and not is_rest(os.pread(file, len(begin), 0), begin):
+        raise FileExistsError(errno.EEXIST, f"another file is at {path}, and is left as it is: move it away")
+
+
 class Replacement:
     """A file that is written beside another one, `PATH.new`, and then takes its place. A symbolic link stays: `PATH` is then the file
-    that it leads to. What a process left there that was killed is overwritten. Only one process or thread at a time has it: the
-    others get `LogRefused`."""
+    that it leads to. What a process left there that was killed is overwritten, and no file that begins otherwise. Only one process or
+    thread at a time has it: the others get `LogRefused`."""
 
-    def __init__(self, path: str, mode: int, log: str):
-        """Makes the file, with these rights and the owner of a log."""
+    def __init__(self, path: str, mode: int, log: str, begin: bytes):
+        """Makes the file, with these rights and the owner of a log. `begin` is how it will begin."""
         self._path, self._size = os.path.realpath(path), 0
         self._new = self._path + ".new"
         self._file: Optional[io.FileIO] = None
@@ -122,6 +138,7 @@ class Replacement:
             fcntl.flock(self._file, fcntl.LOCK_EX | fcntl.LOCK_NB)
             if identity_at(self._new) != identity_of(self._file.fileno()):
                 raise BlockingIOError
+            check_rest(self._file.fileno(), begin, self._new)
         except BlockingIOError as error:
             self._forget()
             raise LogRefused(f"another call is writing {self._new}: call again after it") from error

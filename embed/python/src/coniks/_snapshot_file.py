@@ -6,8 +6,8 @@ import io
 import os
 from typing import Callable, Iterable, Iterator, Optional
 
-from ._files import Replacement, check_kind, chunks_of, opened_at, sync_folder
-from ._snapshot_lines import LAST, position_of, refused
+from ._files import Replacement, check_kind, check_rest, chunks_of, opened_at, sync_folder
+from ._snapshot_lines import FIRST, LAST, position_of, refused
 from .faults import LogFailed, LogRefused
 
 # The header is shorter than this, and so is the last line.
@@ -48,7 +48,8 @@ def _lines(opened: io.FileIO, size: int, place: str) -> Iterator[bytes]:
 
 def write(path: str, lines: Iterable[bytes], check: Callable[[], object]) -> None:
     """Stores the snapshot of the log at a path. `check` is called before it takes the place of an older one."""
-    replacement = Replacement(path + ".snapshot", 0o600, path)
+    check_place(path + ".snapshot")
+    replacement = Replacement(path + ".snapshot", 0o600, path, FIRST)
     try:
         for line in lines:
             replacement.write(line + b"\n")
@@ -56,6 +57,17 @@ def write(path: str, lines: Iterable[bytes], check: Callable[[], object]) -> Non
         replacement.put().close()
     finally:
         replacement.drop()
+
+
+def check_place(place: str) -> None:
+    """Raises `LogRefused` if another file than a snapshot is in its place, one that was cut included."""
+    try:
+        with opened_at(place, os.O_RDONLY, "r") as opened:
+            check_rest(opened.fileno(), FIRST, place)
+    except FileNotFoundError:
+        pass
+    except OSError as error:
+        raise LogRefused(f"the snapshot can't be stored: {error.strerror}") from error
 
 
 def sync(path: str) -> None:

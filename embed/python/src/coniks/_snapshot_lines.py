@@ -12,7 +12,8 @@ from .faults import LogFailed, ProgramFailed, SnapshotDiffers
 if TYPE_CHECKING:
     from .log import Log, SnapshotLog
 
-# How the last line begins, which makes a snapshot whole.
+# How the first line begins, and the last one, which makes a snapshot whole.
+FIRST = b'{"snapshot":'
 LAST = b'{"cmd":"restored","link":"'
 # The format of snapshots.
 FORMAT = 1

@@ -35,7 +35,8 @@ _Self = TypeVar("_Self", bound="Closing")
 # How the first line of each log begins, and the one before the lines of a log whose first lines were dropped.
 _HEAD = b'{"cmd":"open"'
 _FIRST = re.compile(rb'\{"first":([1-9][0-9]{0,19})\}\n')
-_LONGEST_FIRST = 32
+# The line that opens a directory is shorter.
+_LONGEST_OPEN = 512
 
 
 class Log(Protocol):
@@ -237,8 +238,9 @@ class FileLog(Closing):
 
     def _beginning(self, file: int) -> tuple[int, int]:
         """The position of the first line, and where that begins."""
-        head = os.pread(file, _LONGEST_FIRST, 0)
-        if head[: len(_HEAD)] == _HEAD[: len(head)]:
+        head = os.pread(file, _LONGEST_OPEN, 0)
+        # A power failure can have left zeros of the first line, which no call has returned.
+        if head[: len(_HEAD)] == _HEAD[: len(head)] or (len(head) < _LONGEST_OPEN and _HEAD.startswith(head.rstrip(b"\0"))):
             return 0, 0
         found = _FIRST.match(head)
         if not found:
@@ -422,7 +424,7 @@ class FileLog(Closing):
         mark, start = opened.before(position)
         start += sum(len(it) + 1 for it in islice(self._lines(mark, opened), position - mark))
         head = b'{"first":%d}\n' % position
-        replacement = Replacement(self._path, os.fstat(opened.file.fileno()).st_mode & 0o777, self._path)
+        replacement = Replacement(self._path, os.fstat(opened.file.fileno()).st_mode & 0o777, self._path, head[:9])
         try:
             replacement.write(head)
             for chunk in chunks_of(opened.file.fileno(), start, opened.end, str(self)):

@@ -367,6 +367,14 @@ def test_beside(room: str) -> None:
         call: Call = lambda: bench.guard(after(bench.last))
         refused(f"beside: a folder {place.name}", RecordFailed, bench, call, "can't be written", "try again")
         place.rmdir()
+    for text in (b"a letter", b"{}"):
+        new.write_bytes(text)
+        refused("beside: another file", RecordFailed, bench, lambda: bench.guard(after(bench.last)), str(new), "move it away")
+        assert new.read_bytes() == text, "beside: it stays"
+    for text in (b"", b"con", bytes(999), bench.text().encode()):
+        new.write_bytes(text)
+        bench.sign(after(bench.last))
+        assert not new.exists(), "beside: a rest of a record is replaced"
     lock.unlink()
     lock.symlink_to(target)
     refused("beside: a lock that is a link", RecordFailed, bench, lambda: bench.guard(after(bench.last)), "symbolic link")

@@ -301,12 +301,23 @@ def test_kinds(program: str) -> None:
     with staged(program) as it:
         fill(it.own, [1, 2])
         new = it.room / "log.snapshot.new"
-        for what, mode in [("a rest", 0o600), ("a rest that others read", 0o666)]:
-            new.write_bytes(b"x" * 9999)
+        for what, mode in [("a rest", 0o600), ("a rest that others read", 0o666), ("zeros", 0o600)]:
+            new.write_bytes(bytes(9999) if what == "zeros" else b'{"snapshot":' + b"x" * 9999)
             new.chmod(mode)
             it.own.compact()
             assert not new.exists() and (it.snapshot.stat().st_mode & 0o777) == 0o600, f"files: {what}"
             it.own.restart()
+        for place in (new, it.snapshot):
+            kept = place.read_bytes() if place.exists() else None
+            for text in (b"a letter", b'{"cmd":"open"}\n', b"{"):
+                place.write_bytes(text)
+                place.chmod(0o600)
+                if text == b"{":
+                    it.own.compact()
+                    continue
+                raised = raises(f"files: another file at {place.name}", LogRefused, it.own.compact)
+                assert str(place) in str(raised) and place.read_bytes() == text, f"files: it stays: {raised}"
+            assert place == it.snapshot or (kept is None and not new.exists())
         other = it.room / "other"
         other.write_text("kept")
         new.symlink_to(other)

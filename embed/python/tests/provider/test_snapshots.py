@@ -380,6 +380,9 @@ def test_removed(program: str) -> None:
             assert it.snapshot.read_bytes() == before, f"removed: the older one stays, {what}"
             assert new.exists() == (call is exchange), f"removed: another one isn't removed, {what}"
         it.own._log = it.log
+        raises("removed: another file is at its place", LogRefused, it.own.compact)
+        assert new.read_bytes() == b"other", "removed: it stays"
+        new.unlink()
         assert it.own.compact() == 9 and it.again().latest().epoch == 4, "removed: then one is stored"
 
 

@@ -602,6 +602,32 @@ def check_opened(file: Path) -> None:
     assert is_well, "a log that opens: the last line and the folder are synced"
 
 
+HEAD = b'{"cmd":"open"'
+
+
+@pytest.mark.parametrize("left", [b"", bytes(1), bytes(280), HEAD[:5] + bytes(275), HEAD, HEAD + bytes(200)])
+def test_first_append_lost(program: str, room: str, left: bytes) -> None:
+    """What a power failure leaves of a first line that no call has returned: a directory is made there."""
+    path = Path(room) / "log"
+    path.write_bytes(left)
+    path.chmod(0o600)
+    with FileLog.create(path) as log, opened(program, log, Signer(room, Salted())) as own:
+        assert own.commit(1, []).epoch == 1
+    with FileLog(path) as log, opened(program, log, Signer(room, Salted())) as own:
+        assert own.latest().epoch == 1
+
+
+@pytest.mark.parametrize("other", [bytes(512), bytes(200) + b"x", bytes(200) + b"\n", b"{" + bytes(600), b"a" + bytes(200)])
+def test_no_log(room: str, other: bytes) -> None:
+    """A file that isn't the rest of a log is refused, and left as it is."""
+    path = Path(room) / "log"
+    path.write_bytes(other)
+    path.chmod(0o600)
+    for call in (FileLog, FileLog.create):
+        raises("no log", provider.LogFailed, lambda: call(path))
+        assert path.read_bytes() == other
+
+
 def test_threads(program: str) -> None:
     """Lookups from several threads go on while the signer is asked and while the log appends, and show no entry before the log
     has it."""
