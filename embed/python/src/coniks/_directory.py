@@ -119,6 +119,7 @@ class Directory(Closing):
             try:
                 engine = start()
                 try:
+                    engine.check_origin(record, head)
                     if head:
                         engine.check_head(head)
                     self._host.check_record(engine, record)

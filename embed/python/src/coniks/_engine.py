@@ -15,9 +15,9 @@ from ._children import Children
 from ._lines import SIGNATURE_LENGTH, Epoch, Index, Latest, Pending, digits, encoded, install_line, lookup_line
 from ._lines import latest_of, members_of, number, with_member
 from ._restoring import Restoring, link_of
-from ._snapshot_lines import OPENING, Point, lines_of, snapshot_in
+from ._snapshot_lines import OPENING, Point, lines_of, refused, snapshot_in
 from .faults import ChildrenDiffer, Fault, LogBehind, LogFailed, LogForked, OtherIndex, ProgramFailed, ProviderError, ReplayDiffers
-from .faults import SnapshotDiffers, UnknownEpoch
+from .faults import LinesDropped, NoDirectory, SnapshotDiffers, UnknownEpoch
 from .log import Log
 
 # In a log of this format a `prepare` line that follows another one without `install` abandons that update by name.
@@ -109,8 +109,9 @@ class Engine:
     def __init__(self, setting: Setting):
         """Starts the children. `replay` replays the log."""
         self._setting, self.log, self.verify = setting, setting.log, setting.verify
-        # The position of the snapshot that the replay begins with, 0 if there is none.
-        self.begin = 0
+        # The position of the snapshot that the replay begins with, 0 if there is none, and whether it is that of the log's directory,
+        # as far as the log has the line before it.
+        self.begin, self._is_compared = 0, True
         self.position, self.latest = 0, Epoch(0, bytes(32), bytes(32), b"")
         self.size = Latest(0, bytes(32), 0, 0)
         self.chain: list[bytes] = []
@@ -152,6 +153,7 @@ class Engine:
             if found := snapshot_in(self.log):
                 self.begin = found[0]
                 Restoring(self, self.begin).take_all(found[1])
+                self._compare_snapshot()
             count = None if end is None else max(0, end - self.position)
             for line in islice(self.log.read(self.position), count):
                 self.take(line)
@@ -159,6 +161,24 @@ class Engine:
             raise
         except Exception as error:
             raise LogFailed(f"the log can't be read: {type(error).__name__}. Repair it, and start again") from error
+
+    def _compare_snapshot(self) -> None:
+        """Compares the snapshot with the line before its position, which has its link, unless that line was dropped."""
+        try:
+            line = next(iter(self.log.read(self.begin - 1)), b"{}")
+        except (LinesDropped, NoDirectory):
+            self._is_compared = False
+            return
+        if members_of(line, LogFailed, f"line {self.begin - 1} of the log").get("link") != self.latest.link.hex():
+            raise refused(self.log, "has another entry than the line before it")
+
+    def check_origin(self, record: Record, head: Optional[Head]) -> None:
+        """Raises `SnapshotDiffers` if nothing shows that a snapshot is of this directory."""
+        if not (self._is_compared or self.verify or record.signed or head):
+            raise SnapshotDiffers(
+                f"nothing shows that the snapshot of {self.log} is of this directory, since the lines before it were dropped: "
+                "pass verify, sign through a guard, or pass the head that you have kept"
+            )
 
     def follow(self, position: int) -> None:
         """Replays the lines below a position that it hasn't replayed."""

@@ -16,7 +16,7 @@ from unittest import mock
 import pytest
 
 from snapshots import Stage, fill, refused, seen, staged
-from stand_ins import HERE, POLICY, Salted, Signer, index, opened, shown, small_disk
+from stand_ins import HERE, POLICY, Salted, Signer, guarded, index, opened, shown, small_disk
 from raising import raises
 from coniks import Head, provider
 from coniks.provider import Change, DirectoryExists, FileLog, LinesDropped, LogBehind, LogFailed, LogRefused, Overtaken
@@ -183,8 +183,42 @@ def test_signature(program: str) -> None:
         for said in (1, None, "yes"):
             raises(f"signature: verified as {said!r}", SnapshotDiffers, lambda: it.start(verify=lambda *_: said))
         raises("signature: one that fails to be verified", LogFailed, lambda: it.start(verify=lambda *_: 1 // 0))
+        raises("signature: nobody verifies it, and the log has another", SnapshotDiffers, lambda: it.start(verify=None))
+        found = it.log.snapshot()
+        assert found
+        it.log.drop_before(found[0])
         # The signer has signed another entry.
         raises("signature: nobody verifies it, and the record has another", provider.LogForked, lambda: it.start(verify=None))
+
+
+def test_another_directory(program: str) -> None:
+    """The snapshot of another directory in the place of one's own: the log has the link of its entry in the line before it. If that
+    line was dropped, a start wants the signature verified, a guard, or a head."""
+    with staged(program) as it, staged(program) as other:
+        for stage in (it, other):
+            fill(stage.own, [1, 2])
+            stage.own.compact()
+        mine, head = it.lines(), Head(2, sha256(b"\x53" + it.own.chain()[-1]).digest())
+        it.close()
+        it.log = FileLog(it.path)
+        it.write(other.lines())
+        plain: dict[str, Any] = {"sign": it.signer, "verify": None}
+        refused("another directory: its snapshot", SnapshotDiffers, lambda: opened(it.program, it.log, it.signer))
+        refused(
+            "another directory: its snapshot, not verified", SnapshotDiffers, lambda: opened(it.program, it.log, it.signer, **plain)
+        )
+        it.write(mine)
+        found = it.log.snapshot()
+        assert found
+        it.log.drop_before(found[0])
+        text = refused(
+            "another directory: nothing shows it", SnapshotDiffers, lambda: opened(it.program, it.log, it.signer, **plain)
+        )
+        assert all(word in text for word in ("verify", "guard", "head"))
+        known: list[dict[str, Any]] = [{"head": head}, {"verify": it.signer.verify}, {"sign": guarded(it.signer)}]
+        for more in known:
+            with opened(it.program, it.log, it.signer, **{**plain, **more}) as own:
+                assert own.latest().epoch == 2, "another directory: one's own"
 
 
 def linked(chain: Sequence[bytes]) -> list[bytes]:

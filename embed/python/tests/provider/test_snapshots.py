@@ -508,7 +508,8 @@ def test_stale(program: str) -> None:
             assert own.chain() == it.own.chain(), "stale: one that ends while it is read"
         with mock.patch.object(it.log, "read", side_effect=LinesDropped("told to fail")) as read:
             raises("stale: no newer one", LinesDropped, it.own.restart)
-        assert read.call_count == 1, f"stale: the same one isn't read again: {read.call_count}"
+        # For the line before it, which was dropped, and for those after it.
+        assert read.call_count == 2, f"stale: the same one isn't read again: {read.call_count}"
 
 
 def test_slow(program: str) -> None:
