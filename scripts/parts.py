@@ -89,6 +89,7 @@ OF_CLIENTS = [
     "cases/second/client*",
     "cases/second/replies.py",
     "cases/second/curve.py",
+    "cases/second/policy.py",
     "embed/tests/client_sides.py",
 ]
 # What the packages for other languages are compared with.
@@ -248,7 +249,11 @@ PYTHON = [
     ),
     Part(
         "records of owners",
-        [*package("vouching"), *tests("contacts", "*"), "cases/second/vouched.py", "cases/second/convicts"],
+        [
+            *package("vouching", "policy"),
+            *tests("contacts", "*"),
+            *(f"cases/second/{it}" for it in ("vouched.py", "policy.py", "convicts")),
+        ],
         tests("contacts", "test_vouching"),
         library=True,
     ),

@@ -91,6 +91,8 @@ export class Policy {
   readonly epochPeriod: bigint | null;
   /** For how many seconds proofs are kept, null for ever. */
   readonly proofsKept: bigint | null;
+  /** Whether the directory promises that each key is a record of its owner (docs/FORMATS.md, "Keys that their owners vouch for"). */
+  readonly recordsVouched: boolean;
   readonly document: Uint8Array;
   /** The policy digest of each body, 32 bytes. */
   readonly digest: Uint8Array;

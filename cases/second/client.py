@@ -10,6 +10,7 @@ from bytelists import LONGEST_NAME, ZEROS, number, sha256
 from chain import Entry, audit
 from evidence import covered, is_malformed, kind
 from members import Fault
+from policy import NoPolicy, Policy
 from proofs import judge
 from replies import ENTRY, History, ProofOfBytes, Reader, Reply, entries_of
 
@@ -44,35 +45,6 @@ def refused(name: str, status: Optional[int] = None, evidence: Optional[list[Any
     return Fault(name, status=own, evidence=evidence)
 
 
-@dataclass(frozen=True)
-class Policy:
-    """What a client takes from a policy document."""
-
-    digest: bytes
-    keys: tuple[bytes, Optional[bytes]]
-    start: Optional[int] = None
-    period: int = 0
-    proofs_kept: Optional[int] = None
-
-    @classmethod
-    def read(cls, text: bytes) -> Policy:
-        lines = dict(it.split(" ") for it in text.decode().splitlines())
-        vrf = lines.get("vrf-key")
-        keys = bytes.fromhex(lines["signing-key"]), None if vrf is None else bytes.fromhex(vrf)
-        start = lines.get("epoch-start")
-        clock = (None, 0) if start is None else (int(start), int(lines["epoch-period"]))
-        kept = lines["proofs-kept"]
-        return cls(sha256(text), keys, *clock, None if kept == "forever" else int(kept))
-
-    def promises(self, following: int, now: int) -> bool:
-        """Whether proofs are promised of an epoch that another one follows."""
-        if self.proofs_kept is None:
-            return True
-        if self.start is None:
-            return self.proofs_kept > 0
-        return now < self.start + (following - 1) * self.period + self.proofs_kept
-
-
 @dataclass
 class Kept:
     """An entry that was accepted, when that was, and what was seen of the watched name."""
@@ -98,7 +70,10 @@ class Client:
     def __init__(
         self, signing_key: bytes, vrf_key: Optional[bytes], policy: bytes, *, max_age: Optional[int] = None, skew: int = 300
     ) -> None:
-        self.policy = Policy.read(policy)
+        try:
+            self.policy = Policy.read(policy)
+        except NoPolicy:
+            raise Misuse("the bytes are no policy document") from None
         self.signing, self.vrf = signing_key, vrf_key
         self.max_age, self.skew = 2 * self.policy.period if max_age is None else max_age, skew
         self.kept: list[Kept] = []

@@ -96,6 +96,13 @@ static int take_clock(struct reader *it, struct policy *policy)
            policy->period > 0;
 }
 
+/* The line that promises records of owners may be absent. A client in C verifies no records. */
+static int take_records(struct reader *it)
+{
+    struct slice value;
+    return !take_value(it, "records ", &value) || is_text(value, "vouched");
+}
+
 static int take_kept(struct reader *it, struct policy *policy)
 {
     struct slice value;
@@ -113,7 +120,7 @@ uint32_t client_read_policy(struct slice document, struct policy *policy)
     memset(policy, 0, sizeof *policy);
     if (!take_line(&it, "policy coniks-1") || !take_origin(&it) || !take_line(&it, "signature Ed25519") ||
         !take_key(&it, "signing-key ", &policy->signing_key) || !take_vrf(&it, policy) || !take_clock(&it, policy) ||
-        !take_line(&it, "evidence one-chain") || !take_kept(&it, policy) || it.left)
+        !take_line(&it, "evidence one-chain") || !take_records(&it) || !take_kept(&it, policy) || it.left)
         return CONIKS_CLIENT_E_POLICY_FORM;
     policy->has_keys = 1;
     client_hash_bytes(document.bytes, document.length, &policy->digest);

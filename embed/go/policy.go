@@ -26,6 +26,9 @@ type Policy struct {
 	EpochStart, EpochPeriod uint64
 	// ProofsKept is for how many seconds proofs are kept, for ever if it is nil.
 	ProofsKept *uint64
+	// RecordsVouched is whether the directory promises that each key is a record of its owner (docs/FORMATS.md, "Keys that their
+	// owners vouch for"). Two replies that show a change which the owner did not sign convict it then.
+	RecordsVouched bool
 }
 
 var (
@@ -38,7 +41,8 @@ vrf-key ([0-9a-f]{64}))
 (?:epoch-start (0|[1-9][0-9]{0,19})
 epoch-period ([1-9][0-9]{0,19})
 )?evidence one-chain
-proofs-kept (?:forever|(0|[1-9][0-9]{0,19}))
+(records vouched
+)?proofs-kept (?:forever|(0|[1-9][0-9]{0,19}))
 $`)
 	policyOrigin = regexp.MustCompile(`^[!-~]{1,255}$`)
 )
@@ -62,8 +66,8 @@ func (it *Policy) UnmarshalText(text []byte) error {
 		hex.Decode(read.VRFKey[:], found[3])
 	}
 	var start, period, kept uint64
-	for at, number := range []*uint64{&start, &period, &kept} {
-		if digits := found[4+at]; digits != nil {
+	for at, number := range map[int]*uint64{4: &start, 5: &period, 7: &kept} {
+		if digits := found[at]; digits != nil {
 			var err error
 			if *number, err = strconv.ParseUint(string(digits), 10, 64); err != nil {
 				return fmt.Errorf("a number in the policy document is above 2^64 - 1: take the bytes that its directory publishes")
@@ -71,9 +75,10 @@ func (it *Policy) UnmarshalText(text []byte) error {
 		}
 	}
 	read.EpochStart, read.EpochPeriod = start, period
-	if found[6] != nil {
+	if found[7] != nil {
 		read.ProofsKept = &kept
 	}
+	read.RecordsVouched = found[6] != nil
 	*it = read
 	return nil
 }
@@ -98,6 +103,9 @@ func (it Policy) MarshalText() ([]byte, error) {
 		fmt.Fprintf(&text, "epoch-start %d\nepoch-period %d\n", it.EpochStart, it.EpochPeriod)
 	}
 	text.WriteString("evidence one-chain\n")
+	if it.RecordsVouched {
+		text.WriteString("records vouched\n")
+	}
 	if it.ProofsKept == nil {
 		text.WriteString("proofs-kept forever\n")
 	} else {

@@ -23,6 +23,13 @@ func examplePolicy() Policy {
 	return it
 }
 
+// vouchedPolicy is that of testdata/vouched_policy.txt, the other example of docs/FORMATS.md.
+func vouchedPolicy() Policy {
+	it := examplePolicy()
+	it.RecordsVouched = true
+	return it
+}
+
 // shortPolicy has none of what may be left out, and proofs that aren't kept.
 func shortPolicy() Policy {
 	it := examplePolicy()
@@ -31,22 +38,13 @@ func shortPolicy() Policy {
 }
 
 // The digests are those of sha256sum.
-func TestExampleOfAPolicy(t *testing.T) {
-	text, err := os.ReadFile("testdata/policy.txt")
-	if err != nil {
-		t.Fatal(err)
-	}
-	isInFormats(t, string(text))
-	long := examplePolicy()
-	if made, err := long.MarshalText(); err != nil || !bytes.Equal(made, text) {
-		t.Error(string(made), err)
-	}
-	if read, err := ReadPolicy(text); err != nil || fmt.Sprint(*read.VRFKey) != fmt.Sprint(*long.VRFKey) || read.Origin != long.Origin ||
-		read.SigningKey != long.SigningKey || read.EpochStart != 1767225600 || read.EpochPeriod != 3600 || read.ProofsKept != nil {
-		t.Error(read, err)
-	}
+func TestExamplesOfAPolicy(t *testing.T) {
+	long, vouched := examplePolicy(), vouchedPolicy()
+	isOfText(t, long, "testdata/policy.txt")
+	isOfText(t, vouched, "testdata/vouched_policy.txt")
 	for wanted, policy := range map[string]Policy{
 		"9b7c1ee453e0628965915c3a88e82924b3e90fe53ba30531b2b3ff12be6f7fef": long,
+		"5f75a068225cfe181d7149be0081df3d59afc095aeff7f9e3c1fdaca09965a10": vouched,
 		"750a5c93e739bbbbca1b58231a6dda0d53237f9f3be255c5445ede20799199ee": shortPolicy(),
 	} {
 		if digest, err := policy.Digest(); err != nil || fmt.Sprintf("%x", digest) != wanted {
@@ -64,9 +62,27 @@ func TestExampleOfAPolicy(t *testing.T) {
 	}
 }
 
+// isOfText checks that a policy has the document of a file, which is in docs/FORMATS.md.
+func isOfText(t *testing.T, policy Policy, file string) {
+	t.Helper()
+	text, err := os.ReadFile(file)
+	if err != nil {
+		t.Fatal(err)
+	}
+	isInFormats(t, string(text))
+	if made, err := policy.MarshalText(); err != nil || !bytes.Equal(made, text) {
+		t.Error(string(made), err)
+	}
+	if read, err := ReadPolicy(text); err != nil || fmt.Sprint(*read.VRFKey) != fmt.Sprint(*policy.VRFKey) || read.Origin != policy.Origin ||
+		read.SigningKey != policy.SigningKey || read.EpochStart != 1767225600 || read.EpochPeriod != 3600 || read.ProofsKept != nil ||
+		read.RecordsVouched != policy.RecordsVouched {
+		t.Error(read, err)
+	}
+}
+
 // The text that is read is the text that is made, and any other text is refused.
 func TestTextsThatAreNoPolicies(t *testing.T) {
-	long, short := texts(t)
+	long, short, vouched := texts(t)
 	for number, edit := range []struct{ text, old, with string }{
 		{long, "policy coniks-1", "policy coniks-2"}, {long, "policy coniks-1\n", ""}, {long, "\n", "\r\n"}, {long, "vrf ", "vrf  "},
 		{long, "origin keys.example.com/directory", "origin "}, {long, "keys.example", "keys example"}, {long, "keys.", "k\x7fys."},
@@ -81,6 +97,10 @@ func TestTextsThatAreNoPolicies(t *testing.T) {
 		{long, "forever", "18446744073709551616"}, {short, "vrf none\n", ""}, {short, "vrf none\n", "vrf none\nvrf-key " + strings.Repeat("00", 32) + "\n"},
 		{short, "proofs-kept 0", "proofs-kept 00"}, {short, "origin a\n", "origin a\norigin a\n"}, {short, "policy", " policy"},
 		{short, "policy", "\ufeffpolicy"}, {short, "origin a", "origin " + strings.Repeat("a", 256)},
+		{vouched, "records vouched\n", "records vouched\nrecords vouched\n"}, {vouched, "records vouched", "records any"},
+		{vouched, "vouched\n", "vouched \n"}, {vouched, "records ", "records  "}, {vouched, "records vouched\n", "records\n"},
+		{long, "evidence", "records vouched\nevidence"}, {long, "forever\n", "forever\nrecords vouched\n"},
+		{long, "evidence one-chain\n", "records vouched\n"}, {long, "proofs-kept forever\n", "records vouched\n"},
 	} {
 		if wrong := strings.Replace(edit.text, edit.old, edit.with, 1); wrong == edit.text {
 			t.Error("no edit:", number)
@@ -90,7 +110,7 @@ func TestTextsThatAreNoPolicies(t *testing.T) {
 	}
 	chance := rand.New(rand.NewSource(1))
 	for turn := 0; turn < 20000; turn++ {
-		text := []byte([]string{long, short}[turn%2])
+		text := []byte([]string{long, short, vouched}[turn%3])
 		for range [3]int{} {
 			at := chance.Intn(len(text))
 			if chance.Intn(3) > 0 {
@@ -107,13 +127,16 @@ func TestTextsThatAreNoPolicies(t *testing.T) {
 	}
 }
 
-func texts(t *testing.T) (long, short string) {
-	first, err := examplePolicy().MarshalText()
-	second, another := shortPolicy().MarshalText()
-	if err != nil || another != nil {
-		t.Fatal(err, another)
+func texts(t *testing.T) (long, short, vouched string) {
+	var texts [3]string
+	for at, policy := range []Policy{examplePolicy(), shortPolicy(), vouchedPolicy()} {
+		text, err := policy.MarshalText()
+		if err != nil {
+			t.Fatal(err)
+		}
+		texts[at] = string(text)
 	}
-	return string(first), string(second)
+	return texts[0], texts[1], texts[2]
 }
 
 func TestLimitsOfAPolicy(t *testing.T) {
@@ -179,7 +202,7 @@ func TestEpochAt(t *testing.T) {
 // Python makes the same document, and the same epoch of a time.
 func TestPoliciesOfPython(t *testing.T) {
 	needsPython(t)
-	long, short := texts(t)
+	long, short, _ := texts(t)
 	for _, text := range []string{long, short} {
 		policy, err := ReadPolicy([]byte(text))
 		if err != nil {

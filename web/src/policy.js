@@ -9,7 +9,7 @@ const KEY = "([0-9a-f]{64})";
 const DOCUMENT = new RegExp(
   `^policy coniks-1\norigin ([!-~]{1,255})\nsignature Ed25519\nsigning-key ${KEY}\n` +
     `vrf (?:none|ECVRF-EDWARDS25519-SHA512-TAI\nvrf-key ${KEY})\n(?:epoch-start ${NUMBER}\nepoch-period ${NUMBER}\n)?` +
-    `evidence one-chain\nproofs-kept (?:forever|${NUMBER})\n$`,
+    `evidence one-chain\n(records vouched\n)?proofs-kept (?:forever|${NUMBER})\n$`,
 );
 
 /** @param {string | undefined} digits @returns {bigint | null} */
@@ -21,14 +21,14 @@ export class Policy {
   #keys;
 
   /** @param {Uint8Array} document @param {string[]} parts */
-  constructor(document, [, origin, signingKey, vrfKey, ...numbers]) {
+  constructor(document, [, origin, signingKey, vrfKey, start, period, records, kept]) {
     this.#document = document;
     this.#keys = { signing: signingKey, vrf: vrfKey };
     this.origin = origin;
-    const [epochStart, epochPeriod, proofsKept] = numbers.map(numberIn);
-    this.epochStart = epochStart;
-    this.epochPeriod = epochPeriod;
-    this.proofsKept = proofsKept;
+    this.epochStart = numberIn(start);
+    this.epochPeriod = numberIn(period);
+    this.proofsKept = numberIn(kept);
+    this.recordsVouched = records !== undefined;
     Object.freeze(this);
   }
 
@@ -57,7 +57,7 @@ export class Policy {
 export function readPolicy(document) {
   const given = bytes(document, "the policy document");
   const parts = DOCUMENT.exec(Array.from(given.subarray(0, 2048), (it) => String.fromCharCode(it)).join(""));
-  const numbers = parts === null ? [] : parts.slice(4).map(numberIn);
+  const numbers = parts === null ? [] : [parts[4], parts[5], parts[7]].map(numberIn);
   if (parts === null || given.length > 2048 || numbers.some((it) => it !== null && it >= 2n ** 64n) || numbers[1] === 0n) {
     throw new RangeError("this is no policy document of docs/FORMATS.md: take the bytes that its directory publishes");
   }

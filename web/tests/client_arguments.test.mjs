@@ -49,8 +49,8 @@ function renewed(...parts) {
 
 test("the examples of docs/FORMATS.md", async () => {
   same("the digest of the policy", policy.digest, "9b7c1ee453e0628965915c3a88e82924b3e90fe53ba30531b2b3ff12be6f7fef");
-  const parts = { origin: policy.origin, start: policy.epochStart, period: policy.epochPeriod, kept: policy.proofsKept };
-  same("its parts", parts, { origin: "keys.example.com/directory", start: 1767225600, period: 3600, kept: null });
+  const parts = { origin: policy.origin, start: policy.epochStart, period: policy.epochPeriod, kept: policy.proofsKept, records: policy.recordsVouched };
+  same("its parts", parts, { origin: "keys.example.com/directory", start: 1767225600, period: 3600, kept: null, records: false });
   const client = await begun();
   client.watch("alice", key, 1);
   let now = start + 60;
@@ -67,6 +67,19 @@ test("the examples of docs/FORMATS.md", async () => {
   const found = await timed.history("alice", history);
   same("the history", found.map((it) => [it.epoch, it.seen, it.age]), [[1, "same", 3660], [2, "same", 60]]);
   same("the state once more", (await begun({ state })).state, state);
+});
+
+test("the policy that promises records", async () => {
+  const text = `${example("The same directory, if it promises records of owners").join("\n")}\n`;
+  const promising = readPolicy(textBytes(text));
+  same("its digest", promising.digest, "5f75a068225cfe181d7149be0081df3d59afc095aeff7f9e3c1fdaca09965a10");
+  same("its parts", [promising.recordsVouched, promising.proofsKept, promising.epochPeriod], [true, null, 3600]);
+  same("its last number", readPolicy(textBytes(text.replace("kept forever", "kept 7"))).proofsKept, 7);
+  const wrong = [
+    ["records vouched\n", "records vouched\nrecords vouched\n"], ["records vouched", "records any"], ["vouched\n", "vouched \n"], ["records vouched\nproofs-kept forever\n", "proofs-kept forever\nrecords vouched\n"],
+    ["evidence one-chain\nrecords vouched\n", "records vouched\nevidence one-chain\n"], ["kept forever", `kept ${2n ** 64n}`], ["period 3600", "period 0"],
+  ];
+  for (const [from, to] of wrong) await throwing(`no policy: ${to.slice(0, 40)}`, () => readPolicy(textBytes(text.replace(from, to))), "RangeError");
 });
 
 /** Documents that differ in one line from the example, of which a policy has exactly one. */

@@ -81,6 +81,27 @@ fn other_documents_are_no_policy() {
     assert_eq!(kept.proofs_kept(), Some(u64::MAX));
 }
 
+#[test]
+fn the_policy_that_promises_records() {
+    let text = POLICY.replace("proofs-kept", "records vouched\nproofs-kept");
+    let policy = Policy::read(text.as_bytes()).expect("a policy");
+    assert!(policy.records_vouched() && !formats::policy().records_vouched());
+    assert_eq!(policy.digest().to_vec(), bytes("5f75a068225cfe181d7149be0081df3d59afc095aeff7f9e3c1fdaca09965a10"));
+    assert_eq!((policy.bytes(), policy.proofs_kept()), (text.as_bytes(), None));
+    for (from, to) in [
+        ("records vouched\n", "records vouched\nrecords vouched\n"),
+        ("records vouched", "records any"),
+        ("vouched\n", "vouched \n"),
+        ("records vouched\nproofs-kept forever\n", "proofs-kept forever\nrecords vouched\n"),
+        ("evidence one-chain\nrecords vouched\n", "records vouched\nevidence one-chain\n"),
+        ("evidence one-chain\n", ""),
+        ("proofs-kept forever\n", ""),
+    ] {
+        assert_ne!(text.replace(from, to), text);
+        assert_eq!(Policy::read(text.replace(from, to).as_bytes()), Err(PolicyError::Form), "{from:?}, {to:?}");
+    }
+}
+
 /// What the example's reply shows, with the key that has one byte.
 fn shown(epoch: u64, seen: Option<Watched>, age: i128) -> Found {
     let first_seen = START + PERIOD * (epoch - 1) + 60;

@@ -20,6 +20,7 @@ _TEXT = re.compile(
     "vrf (?:none|ECVRF-EDWARDS25519-SHA512-TAI\nvrf-key " + _KEY + ")\n"
     "(?:epoch-start " + _NUMBER + "\nepoch-period " + _NUMBER + "\n)?"
     "evidence one-chain\n"
+    "(records vouched\n)?"
     "proofs-kept (?:forever|" + _NUMBER + ")\n"
 )
 
@@ -45,7 +46,8 @@ class Policy:
     `origin` names the directory, by 1 to 255 printable ASCII characters without space. `signing_key` is its public key
     (Ed25519), and `vrf_key` that of its VRF (ECVRF-EDWARDS25519-SHA512-TAI), None without a VRF. Epoch 1 begins at
     `epoch_start`, in Unix seconds, and each epoch lasts `epoch_period` seconds; both are None in a directory without a clock.
-    Proofs are kept for `proofs_kept` seconds, for ever if it is None.
+    Proofs are kept for `proofs_kept` seconds, for ever if it is None. With `records_vouched` each key is a record of its owner
+    (`coniks.vouching`), and two replies that show a change which the owner did not sign convict the directory.
     """
 
     origin: str
@@ -54,6 +56,7 @@ class Policy:
     epoch_start: Optional[int] = None
     epoch_period: Optional[int] = None
     proofs_kept: Optional[int] = None
+    records_vouched: bool = False
 
     def __post_init__(self) -> None:
         if not isinstance(self.origin, str):
@@ -70,6 +73,8 @@ class Policy:
             _check_number(self.epoch_period, 1, "the period of the epochs")
         if self.proofs_kept is not None:
             _check_number(self.proofs_kept, 0, "how long proofs are kept")
+        if not isinstance(self.records_vouched, bool):
+            raise TypeError(f"whether records are vouched is True or False, not {type(self.records_vouched).__name__}")
 
     @classmethod
     def read(cls, text: bytes) -> Policy:
@@ -79,9 +84,10 @@ class Policy:
         found = _TEXT.fullmatch(bytes(text).decode("latin-1"))
         if not found:
             raise ValueError("this is no policy document of docs/FORMATS.md: take the bytes that its directory publishes")
-        origin, signing_key, vrf_key = found.group(1, 2, 3)
-        numbers = [None if it is None else int(it) for it in found.group(4, 5, 6)]
-        return cls(origin, bytes.fromhex(signing_key), None if vrf_key is None else bytes.fromhex(vrf_key), *numbers)
+        origin, signing_key, vrf_key, records = found.group(1, 2, 3, 6)
+        start, period, kept = (None if it is None else int(it) for it in found.group(4, 5, 7))
+        keys = bytes.fromhex(signing_key), None if vrf_key is None else bytes.fromhex(vrf_key)
+        return cls(origin, *keys, start, period, kept, records_vouched=records is not None)
 
     def __bytes__(self) -> bytes:
         """The document, which clients and auditors get."""
@@ -91,7 +97,8 @@ class Policy:
         clock = [] if self.epoch_start is None else [f"epoch-start {self.epoch_start}", f"epoch-period {self.epoch_period}"]
         kept = "forever" if self.proofs_kept is None else self.proofs_kept
         lines = ["policy coniks-1", f"origin {self.origin}", "signature Ed25519", f"signing-key {self.signing_key.hex()}"]
-        return "".join(f"{it}\n" for it in [*lines, *vrf, *clock, "evidence one-chain", f"proofs-kept {kept}"]).encode()
+        promises = ["evidence one-chain", *(["records vouched"] if self.records_vouched else []), f"proofs-kept {kept}"]
+        return "".join(f"{it}\n" for it in [*lines, *vrf, *clock, *promises]).encode()
 
     @property
     def digest(self) -> bytes:

@@ -18,15 +18,22 @@ from coniks import Policy
 FIRST = bytes.fromhex("d75a980182b10ab7d54bfed3c964073a0ee172f3daa62325af021a68f707511a")
 SECOND = bytes.fromhex("3d4017c3e843895a92b70aa74d1b7ebc9c982ccf2ec4968cc0cd55f12af4660c")
 WHOLE = Policy("keys.example.com/directory", FIRST, SECOND, 1767225600, 3600)
+VOUCHED = dataclasses.replace(WHOLE, records_vouched=True)
 
 
-def test_example() -> None:
-    """The worked example of docs/FORMATS.md, whose SHA-256 `sha256sum` has computed."""
-    text = worked_example("The policy document")
-    [digest] = re.findall("`([0-9a-f]{64})`", page_of("The policy document"))
-    assert bytes(WHOLE).decode() == text and Policy.read(text.encode()) == WHOLE, "policy: the worked example"
-    assert WHOLE.digest.hex() == digest, "policy: its digest"
-    assert len({WHOLE, Policy.read(bytes(WHOLE)), pickle.loads(pickle.dumps(WHOLE))}) == 1, "policy: it is a value"
+def test_examples() -> None:
+    """The worked examples of docs/FORMATS.md, whose SHA-256 `sha256sum` has computed."""
+    digests = re.findall("`([0-9a-f]{64})`", page_of("The policy document"))
+    assert digests == [
+        "9b7c1ee453e0628965915c3a88e82924b3e90fe53ba30531b2b3ff12be6f7fef",
+        "5f75a068225cfe181d7149be0081df3d59afc095aeff7f9e3c1fdaca09965a10",
+    ]
+    for number, policy in enumerate([WHOLE, VOUCHED]):
+        text = worked_example("The policy document", number)
+        assert bytes(policy).decode() == text and Policy.read(text.encode()) == policy, f"policy: the worked example {number}"
+        assert policy.digest.hex() == digests[number], f"policy: its digest {number}"
+        assert len({policy, Policy.read(bytes(policy)), pickle.loads(pickle.dumps(policy))}) == 1, "policy: it is a value"
+    assert not WHOLE.records_vouched and Policy.read(bytes(VOUCHED)).records_vouched, "policy: what it promises of records"
     assert coniks.Policy is Policy and "Policy" in coniks.__all__, "policy: it is exported"
 
 
@@ -34,12 +41,12 @@ def test_fields() -> None:
     """Each combination of fields has one document, and each document its policy."""
     clocks: list[tuple[Optional[int], Optional[int]]] = [(None, None), (0, 1), (2**64 - 1, 2**64 - 1)]
     policies = [
-        Policy(origin, FIRST, vrf, clock[0], clock[1], kept)
+        Policy(origin, FIRST, vrf, clock[0], clock[1], kept, records_vouched=records)
         for origin, vrf, clock in itertools.product(["a", "!" * 255, "~"], [None, SECOND], clocks)
-        for kept in [None, 0, 2**64 - 1]
+        for kept, records in itertools.product([None, 0, 2**64 - 1], [False, True])
     ]
     texts = {bytes(it): it for it in policies}
-    assert len(texts) == 3 * 2 * 3 * 3, "policy: each has a document of its own"
+    assert len(texts) == 3 * 2 * 3 * 3 * 2, "policy: each has a document of its own"
     assert all(Policy.read(it) == policy for it, policy in texts.items()), "policy: each document is read"
     assert all(it.digest == hashlib.sha256(text).digest() for text, it in texts.items()), "policy: its digest is its SHA-256"
     change: Callable[..., object] = dataclasses.replace
@@ -48,6 +55,7 @@ def test_fields() -> None:
         (TypeError, [{"origin": b"a"}, {"origin": None}, {"signing_key": None}, {"signing_key": FIRST.hex()}]),
         (TypeError, [{"signing_key": bytearray(32)}, {"vrf_key": SECOND.hex()}, {"epoch_start": 1.5}, {"epoch_period": "1"}]),
         (TypeError, [{"epoch_start": True}, {"epoch_period": True}, {"proofs_kept": 1.0}, {"proofs_kept": False}]),
+        (TypeError, [{"records_vouched": it} for it in (None, 1, "vouched", b"")]),
         (ValueError, [{"signing_key": FIRST[1:]}, {"signing_key": b""}, {"vrf_key": SECOND * 2}, {"vrf_key": b""}]),
         (ValueError, [{"epoch_start": None}, {"epoch_period": None}, {"epoch_period": 0}, {"epoch_start": -1}]),
         (ValueError, [{"epoch_start": 2**64}, {"epoch_period": 2**64}, {"proofs_kept": -1}, {"proofs_kept": 2**64}]),
@@ -64,7 +72,9 @@ def no_policies(text: str) -> Iterator[tuple[str, str]]:
         name, value = line[:-1].split(" ")
         rest = parts[:number], parts[number + 1 :]
         put: Callable[..., str] = lambda *new: "".join([*rest[0], *new, *rest[1]])
-        yield f"{name} missing", put()
+        # The line that may be left out.
+        if name != "records":
+            yield f"{name} missing", put()
         yield f"{name} twice", put(line, line)
         yield f"{name} of no value", put(f"{name}\n")
         yield f"{name} with two spaces", put(f"{name}  {value}\n")
@@ -81,11 +91,14 @@ def no_policies(text: str) -> Iterator[tuple[str, str]]:
             changed[number], changed[other] = changed[other], line
             yield f"{name} exchanged with line {other}", "".join(changed)
         if name not in ("policy", "origin"):
-            for wrong in (value.upper(), value.swapcase(), f"0{value}", f"+{value}", f"{value}0x", f"{value}.", f'"{value}"'):
-                yield f"{name} {wrong}", put(f"{name} {wrong}\n") if wrong != value else put()
+            for wrong in {value.upper(), value.swapcase(), f"0{value}", f"+{value}", f"{value}0x", f"{value}.", f'"{value}"'} - {
+                value
+            }:
+                yield f"{name} {wrong}", put(f"{name} {wrong}\n")
     yield from ((f"cut after {it} bytes", text[:it]) for it in range(len(text)))
     for pattern, wrong in [
-        ("coniks-1", "coniks-2"), ("Ed25519", "Ed448"), ("one-chain", "none"), ("vrf ECVRF-EDWARDS25519-SHA512-TAI", "vrf none"),
+        ("coniks-1", "coniks-2"), ("Ed25519", "Ed448"), ("one-chain", "none"), ("records .*", "records any"),
+        ("vrf ECVRF-EDWARDS25519-SHA512-TAI", "vrf none"),
         ("vrf ECVRF.*\nvrf-key .*\n", "vrf ECVRF-EDWARDS25519-SHA512-TAI\n"), ("origin .*", "origin a b"), ("origin .*", "origin "),
         ("origin .*", "origin " + "a" * 256), ("origin .*", "origin \u00e4"), ("origin .*", "origin a\x7f"), ("3600", "0"),
         ("epoch-period .*", "epoch-period 18446744073709551616"), ("epoch-start .*", "epoch-start 99999999999999999999"),
@@ -99,7 +112,7 @@ def no_policies(text: str) -> Iterator[tuple[str, str]]:
 
 def test_texts() -> None:
     """Texts that are no policy document, in three encodings."""
-    passed, whole = [], bytes(WHOLE)
+    passed, whole = [], bytes(VOUCHED)
     for what, text in no_policies(whole.decode()):
         for encoding in ("utf-8", "latin-1", "utf-16"):
             try:
@@ -113,7 +126,7 @@ def test_texts() -> None:
     for wrong in (whole.decode(), None, 7):
         argument: Any = wrong
         raises(f"policy: a document of {type(wrong).__name__}", TypeError, lambda: Policy.read(argument))
-    assert Policy.read(bytearray(whole)) == Policy.read(memoryview(whole)) == WHOLE, "policy: a document of other bytes"
+    assert Policy.read(bytearray(whole)) == Policy.read(memoryview(whole)) == VOUCHED, "policy: a document of other bytes"
 
 
 def test_clock() -> None:

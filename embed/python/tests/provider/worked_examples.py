@@ -2,6 +2,8 @@
 
 from __future__ import annotations
 
+import re
+
 from stand_ins import TOP
 
 
@@ -11,6 +13,7 @@ def page_of(section: str) -> str:
     return page[page.index(f"\n## {section}\n") :].split("\n## ")[1]
 
 
-def worked_example(section: str) -> str:
-    """The indented lines of a section of docs/FORMATS.md."""
-    return "".join(f"{it[4:]}\n" for it in page_of(section).splitlines() if it.startswith("    "))
+def worked_example(section: str, number: int = 0) -> str:
+    """A block of indented lines in a section of docs/FORMATS.md, the first one by default."""
+    blocks = re.findall(r"(?:^    .*\n)+", page_of(section), re.M)
+    return re.sub("^    ", "", blocks[number], flags=re.M)

@@ -55,6 +55,7 @@ pub struct Policy {
     vrf_key: Option<[u8; 32]>,
     clock: Option<EpochClock>,
     proofs_kept: Option<u64>,
+    records_vouched: bool,
 }
 
 impl Policy {
@@ -115,6 +116,13 @@ impl Policy {
         self.proofs_kept
     }
 
+    /// Returns whether the directory promises that each key is a record of its owner. Two replies that show a change which the owner
+    /// did not sign convict it then (`docs/FORMATS.md`, "Keys that their owners vouch for").
+    #[must_use]
+    pub fn records_vouched(&self) -> bool {
+        self.records_vouched
+    }
+
     /// Returns the number of the epoch at a time in Unix seconds.
     ///
     /// # Errors
@@ -147,11 +155,20 @@ impl<'a> Lines<'a> {
         let vrf_key = it.vrf_key()?;
         let clock = it.clock()?;
         it.line("evidence one-chain")?;
+        let records_vouched = it.records_vouched()?;
         let proofs_kept = match it.value("proofs-kept ")? {
             "forever" => None,
             other => Some(number(other)?),
         };
-        it.rest.is_empty().then(|| Policy { document: document.to_string(), origin, signing_key, vrf_key, clock, proofs_kept })
+        it.rest.is_empty().then(|| Policy {
+            document: document.to_string(),
+            origin,
+            signing_key,
+            vrf_key,
+            clock,
+            proofs_kept,
+            records_vouched,
+        })
     }
 
     /// Takes the value of the line with a name and a space.
@@ -181,6 +198,13 @@ impl<'a> Lines<'a> {
         let start = number(start)?;
         let period = NonZeroU64::new(number(self.value("epoch-period ")?)?)?;
         Some(Some(EpochClock { start, period }))
+    }
+
+    fn records_vouched(&mut self) -> Option<bool> {
+        match self.value("records ") {
+            None => Some(false),
+            Some(value) => (value == "vouched").then_some(true),
+        }
     }
 }
 
