@@ -1,4 +1,4 @@
-"""Who may register a name, change its key, and see its old keys. The service calls one function for it: replace it by yours."""
+"""Who may register a name, change its key, and see its old keys. The service calls one function for it: replace `Tokens` by yours."""
 
 from __future__ import annotations
 
@@ -8,6 +8,7 @@ from dataclasses import dataclass
 from pathlib import Path
 from typing import Callable, Mapping, Optional
 
+from coniks import Policy
 from coniks.provider import Operation
 from coniks.vouching import Place, is_allowed
 
@@ -28,14 +29,33 @@ Authorise = Callable[[Request], bool]
 
 
 class Vouched:
-    """Refuses a change of a key that its owner doesn't vouch for, whoever asks (`coniks.vouching`). Another function decides the rest."""
+    """Refuses each key that isn't a record of the name's owner, whoever asks, as a policy with `records vouched` promises
+    (`coniks.vouching`). Another function decides the rest. Raises ValueError for a policy without that line."""
 
-    def __init__(self, policy: bytes, other: Authorise):
-        self._policy, self._other = policy, other
+    def __init__(self, policy: Policy, other: Authorise):
+        if not policy.records_vouched:
+            raise ValueError("the policy does not promise records of owners, so nothing may ask for them: leave Vouched out")
+        self.policy, self._other = policy, other
 
     def __call__(self, request: Request) -> bool:
-        operation, place = request.operation, Place(self._policy, request.name)
+        operation, place = request.operation, Place(self.policy.digest, request.name)
         return (operation is None or is_allowed(place, request.present, operation.key)) and self._other(request)
+
+
+def authoriser(policy: Policy, other: Authorise) -> Authorise:
+    """Returns the function that a service with a policy calls: records of owners are asked for exactly if the policy promises them."""
+    if policy.records_vouched:
+        return Vouched(policy, other)
+    return other
+
+
+def check_promise(policy: Policy, authorise: Authorise) -> None:
+    """Checks that a service keeps what its policy promises of records. Raises ValueError."""
+    if policy.records_vouched and not (isinstance(authorise, Vouched) and authorise.policy == policy):
+        raise ValueError(
+            "the policy says `records vouched`, and this service would take keys that their owners did not sign, which convict it: "
+            "pass what authorises to `authoriser`"
+        )
 
 
 class Tokens:

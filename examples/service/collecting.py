@@ -11,7 +11,7 @@ from contextlib import suppress
 from dataclasses import dataclass, field, replace
 from typing import Callable, Mapping, Optional, Sequence, TypeVar, Union
 
-from authorising import Authorise, Request
+from authorising import Authorise, Request, check_promise
 from coniks.provider import EpochNotLater, EpochNotNow, EpochSpent, Fault, Lookup, Operation, Overtaken
 from coniks.provider import Provider, ProviderError, Register, RestartNeeded
 from holding import LOG, Holder, error_of
@@ -56,6 +56,7 @@ class Collector:
     """The operations by their names, and those that were decided lately. The event loop alone changes them."""
 
     def __init__(self, holder: Holder, authorise: Authorise, is_late: bool = False):
+        check_promise(holder.keys.policy, authorise)
         self.holder, self.authorise, self.failures = holder, authorise, 0
         # Whether the next epoch may be far from the latest one, since the directory stood still.
         self._is_late = is_late
@@ -86,11 +87,15 @@ class Collector:
         shown = await asyncio.to_thread(self.holder.directory.lookup, operation.name)
         judged = Judged(operation, headers, shown_key(shown), shown.epoch)
         if not await asyncio.to_thread(judged.is_allowed, self.authorise):
-            raise forbidden()
+            raise self._forbidden()
         is_taken = judged.present is not None
         if isinstance(operation, Register) is is_taken:
             raise Problem(409, "NameTaken" if is_taken else "NameUnknown", f"the name is {'' if is_taken else 'not '}registered")
         return judged
+
+    def _forbidden(self) -> Problem:
+        unsigned = ", or the key is no record that the name's owner signed" * self.holder.keys.policy.records_vouched
+        return Problem(403, "Forbidden", f"the credentials do not allow this{unsigned}")
 
     def collect(self, judged: Judged) -> Asked:
         """Takes an operation that is judged, or returns the one that asks for the same already. Raises `Problem`."""
@@ -160,7 +165,7 @@ class Collector:
             if judged.present == it.judged.present or await self._run(judged.is_allowed, self.authorise):
                 self._batch[it.operation.name] = replace(it, judged=judged)
             else:
-                self._batch.pop(it.operation.name).outcome.set_result(forbidden())
+                self._batch.pop(it.operation.name).outcome.set_result(self._forbidden())
 
     async def _refuses(self, provider: Provider, epoch: int) -> bool:
         """Tries once to commit the batch, which is over once it is known whether the log has it. Returns whether the program refuses
@@ -212,10 +217,6 @@ def again(provider: Provider, judged: Sequence[Judged], epoch: int) -> list[Judg
         if isinstance(it, ProviderError):
             raise it
     return [replace(it, present=shown_key(its), epoch=epoch) for it, its in zip(judged, shown)]
-
-
-def forbidden() -> Problem:
-    return Problem(403, "Forbidden", "the credentials do not allow this, or the owner of the present key did not sign it")
 
 
 def shown_key(shown: Union[Lookup, ProviderError]) -> Optional[bytes]:

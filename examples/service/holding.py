@@ -53,10 +53,21 @@ def _secret(path: Path) -> bytes:
     return key
 
 
-def make_keys(folder: Path, origin: str, start: int, period: int, kept: Optional[int]) -> None:
+@dataclass(frozen=True)
+class Terms:
+    """What the policy of a new directory says besides its keys: the fields of `coniks.Policy`."""
+
+    origin: str
+    epoch_start: int
+    epoch_period: int
+    proofs_kept: Optional[int]
+    records_vouched: bool = False
+
+
+def make_keys(folder: Path, terms: Terms) -> None:
     """Draws both keys and writes the policy. Raises `FileExistsError` if there is one of them."""
     signing, vrf = (secrets.token_bytes(32) for _ in range(2))
-    policy = Policy(origin, bytes(SigningKey(signing).verify_key), ecvrf.public_key(vrf), start, period, kept)
+    policy = Policy(signing_key=bytes(SigningKey(signing).verify_key), vrf_key=ecvrf.public_key(vrf), **vars(terms))
     folder.mkdir(mode=0o700, parents=True, exist_ok=True)
     for name, data in [(_SIGNING, signing), (_VRF, vrf), (_POLICY, bytes(policy))]:
         with open(folder / name, "xb", opener=lambda path, flags: os.open(path, flags, 0o600)) as file:

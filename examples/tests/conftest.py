@@ -22,11 +22,11 @@ def packages() -> None:
 def service(
     packages: None, program: str, request: pytest.FixtureRequest, tmp_path_factory: pytest.TempPathFactory
 ) -> Iterator[object]:
-    """A service that the tests of a module share. It has an epoch each second, and the patience that the module says."""
+    """A service that the tests of a module share. It has an epoch each second, and the patience and the policy that the module says."""
     from services import Running
 
     running = Running(tmp_path_factory.mktemp("service"), program)
-    running.make()
+    running.make(*getattr(request.module, "POLICY", ()))
     running.start(
         "--rate", "100000", "--patience", getattr(request.module, "PATIENCE", "600"), "--connections", "300", "--recent", "100000"
     )

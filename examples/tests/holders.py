@@ -9,13 +9,16 @@ from typing import Any, Iterator, Sequence
 
 from collecting import Collector, Judged
 from coniks.provider import Operation
-from holding import Holder, Keys, Places, make_keys
+from holding import Holder, Keys, Places, Terms, make_keys
 
 
 @contextmanager
-def made(program: str, room: Path, period: int = 1000, operations: Sequence[Operation] = ()) -> Iterator[Any]:
+def made(
+    program: str, room: Path, period: int = 1000, operations: Sequence[Operation] = (), records_vouched: bool = False
+) -> Iterator[Any]:
     """A holder over a new directory with one epoch. The clock has the next one."""
-    make_keys(room / "keys", "keys.example.com", int(time.time()) - period - 5, period, 10 * period)
+    start = int(time.time()) - period - 5
+    make_keys(room / "keys", Terms("keys.example.com", start, period, 10 * period, records_vouched))
     places = Places(str(room / "log"), str(room / "guard"), program)
     holder: Any = Holder(places, Keys(room / "keys"), create=True)
     holder.provider.commit(1, operations, force=True)

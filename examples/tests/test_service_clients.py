@@ -2,26 +2,39 @@
 
 from __future__ import annotations
 
+import asyncio
+import base64
 import json
 import os
 import re
 import socket
 import subprocess
 import sys
+from dataclasses import replace
 from pathlib import Path
 from typing import Any, Iterator, Optional
+from unittest.mock import Mock
 
 import pytest
 
 pytest.importorskip("aiohttp")
 pytest.importorskip("nacl.signing")
 
-from coniks import Policy
-from coniks.vouching import Place, first, following
+from authorising import Request, Tokens, Vouched, authoriser
+from collecting import Collector, shown_key
+from coniks import Policy, provider
+from coniks.provider import Register
+from coniks.vouching import Change, Place, first, following, judged
+from connections import Bounds
+from holders import made
 from nacl.signing import SigningKey
+from problems import Problem
 from services import HOME, PYTHON, TOKEN, TOP, Running, until
 
 README = (HOME / "README.md").read_text("utf-8")
+# How the service of this module is made.
+POLICY = ["--vouched"]
+OWNER, THIEF = (SigningKey(name.encode().ljust(32)) for name in ("owner", "thief"))
 
 
 class Person:
@@ -74,18 +87,84 @@ def test_life(people: list[Person], service: Running) -> None:
     assert bob.until(4, "lookup", "nobody") and bob.until(0, "evidence")
 
 
-def test_service_asks_for_a_voucher(service: Running) -> None:
-    """Whoever has a token changes no record that its owner doesn't vouch for, and registers no wrong one."""
-    place = Place(Policy.read(service.get("/v1/policy").body).digest, "vouched")
-    owner, thief = (SigningKey(name.encode().ljust(32)) for name in ("owner", "thief"))
-    record = first(place, owner, b"key")
-    assert service.operate("register", "vouched", record[:-1] + b"x").status == 403
+def test_service_keeps_its_promise(service: Running) -> None:
+    """The policy of a service that is made so promises records, and the service takes no other key, whoever has a token."""
+    policy = Policy.read(service.get("/v1/policy").body)
+    place = Place(policy.digest, "vouched")
+    record, other = (first(place, it, b"key") for it in (OWNER, THIEF))
+    assert policy.records_vouched and b"\nrecords vouched\nproofs-kept " in bytes(policy)
+    for wrong in [record[:-1] + b"x", following(place, OWNER, record, b"key"), b"plain"]:
+        refused = service.operate("register", "vouched", wrong)
+        assert (refused.status, refused.fault) == (403, "Forbidden") and "no record" in refused.json["detail"]
     assert service.operate("register", "vouched", record).status == 200
-    for wrong in [b"plain", first(place, thief, b"key"), following(place, thief, first(place, thief, b"key"), b"x"), record]:
+    for wrong in [b"plain", other, following(place, THIEF, other, b"x"), record]:
         assert service.operate("change", "vouched", wrong).status == 403
-    assert service.operate("change", "vouched", following(place, owner, record, b"another key")).status == 200
-    assert service.operate("register", "plain", b"plain").status == 200
-    assert service.operate("change", "plain", b"another").status == 200, "a plain key is its token's"
+    assert service.operate("change", "vouched", following(place, OWNER, record, b"another key")).status == 200
+
+
+def test_service_without_a_promise(other: Running) -> None:
+    """A service whose policy promises no records takes what its tokens allow, also in the place of a record."""
+    other.start()
+    policy = Policy.read(other.get("/v1/policy").body)
+    assert not policy.records_vouched and b"records" not in bytes(policy)
+    assert other.operate("register", "alice", first(Place(policy.digest, "alice"), OWNER, b"key")).status == 200
+    assert other.operate("change", "alice", b"plain").status == 200
+    refused = other.operate("register", "bob", b"plain", Authorization="Bearer x")
+    assert refused.status == 403 and "record" not in refused.json["detail"]
+    assert other.end() == 0
+
+
+def test_promise_and_service_cannot_differ(packages: None, program: str, tmp_path: Path) -> None:
+    """A service doesn't start whose policy promises records and which doesn't ask for them, or asks by another policy."""
+    from collecting import Collector
+
+    with made(program, tmp_path, records_vouched=True) as holder:
+        policy = holder.keys.policy
+
+        def started(authorise: Any) -> Collector:
+            return Collector(holder, authorise)
+
+        for wrong in [Tokens(None), lambda _: True, Vouched(replace(policy, origin="keys.example.org"), Tokens(None))]:
+            with pytest.raises(ValueError, match="the policy says `records vouched`"):
+                started(wrong)
+        assert started(authoriser(policy, Tokens(None))) and started(Vouched(policy, lambda _: True))
+        plain, tokens = replace(policy, records_vouched=False), Tokens(None)
+        assert authoriser(plain, tokens) is tokens
+        with pytest.raises(ValueError, match="does not promise records"):
+            Vouched(plain, tokens)
+
+
+def test_change_during_an_epoch(packages: None, program: str, tmp_path: Path) -> None:
+    """A record that followed the present one when it was sent, and no longer once it would be collected, is refused: taken it would
+    convict the directory. Its owner signed two records of one number."""
+    from endpoints import Endpoints
+
+    with made(program, tmp_path, records_vouched=True) as holder:
+        place, between = Place(holder.keys.policy.digest, "alice"), list[provider.Operation]()
+        record = first(place, OWNER, b"key")
+        one, other = (following(place, OWNER, record, it) for it in (b"one", b"other"))
+        holder.provider.commit(2, [Register("alice", record)], force=True)
+
+        def slow(_: Request) -> bool:
+            """Whoever decides takes until the next epoch, if something is to be committed."""
+            if between:
+                holder.provider.commit(3, [between.pop()], force=True)
+            return True
+
+        async def sent(key: bytes) -> Any:
+            served = Endpoints(Collector(holder, Vouched(holder.keys.policy, slow)), Mock(), Mock(), Bounds())
+            body = json.dumps({"op": "change", "name": "alice", "key": base64.b64encode(key).decode()}).encode()
+            return await served.operate(Mock(content_type="application/json", headers={}, read=lambda: soon(body)))
+
+        between.append(provider.Change("alice", one))
+        with pytest.raises(Problem, match="no record"):
+            asyncio.run(sent(other))
+        assert shown_key(holder.provider.lookup("alice")) == one and judged(place, one, other) is Change.UNVOUCHED
+        assert asyncio.run(sent(following(place, OWNER, one, b"two"))).status == 202
+
+
+async def soon(body: bytes) -> bytes:
+    return body
 
 
 def free() -> int:

@@ -8,7 +8,7 @@ import time
 from concurrent.futures import ThreadPoolExecutor
 from contextlib import suppress
 from pathlib import Path
-from typing import Any, Callable, Optional, Sequence
+from typing import Any, Callable, Sequence
 
 import pytest
 
@@ -113,19 +113,3 @@ def test_judged_again(program: str, tmp_path: Path, monkeypatch: pytest.MonkeyPa
         assert isinstance(alice, Problem) and (alice.status, alice.fault) == (403, "Forbidden")
         assert bob == holder.provider.chain()[-1] and holder.provider.latest().epoch == 3
         assert [shown_key(holder.provider.lookup(it)) for it in ("alice", "bob")] == [b"2", b"3"]
-
-
-def test_judged_at_once(program: str, tmp_path: Path) -> None:
-    """An operation whose name gets another key while it is judged is judged by that one."""
-    with made(program, tmp_path, operations=[Register("alice", b"1")]) as holder:
-        seen: list[Optional[bytes]] = []
-
-        def authorise(request: Request) -> bool:
-            if not seen:
-                holder.provider.commit(2, [Change("alice", b"2")])
-            seen.append(request.present)
-            return request.present == b"1"
-
-        with pytest.raises(Problem) as refused:
-            asyncio.run(Collector(holder, authorise).take(Change("alice", b"3"), {}))
-        assert refused.value.fault == "Forbidden" and seen == [b"1", b"2"]

@@ -116,14 +116,14 @@ def judged(place: Place, before: bytes, now: Optional[bytes]) -> Change:
 
 
 def is_allowed(place: Place, present: Optional[bytes], value: bytes) -> bool:
-    """Whether a service takes bytes in the place of a name's present ones, None if it has none: a record is followed by the next one
-    alone, and the first one is signed by itself. Bytes without the tag of a record may follow others without it."""
+    """Whether a service whose policy promises records takes bytes in the place of a name's present ones, None if it has none: the
+    first record, which its voucher signs, and after a record the next one."""
     old, new = Record.read(present), Record.read(value)
-    if present is not None and old is not None:
-        return new is not None and new.number == old.number + 1 and judged(place, present, value) is Change.VOUCHED
     if new is None:
-        return value[: len(_TAG)] != _TAG
-    return (new.number, new.before) == (1, bytes(32)) and new.is_signed(place)
+        return False
+    if present is None:
+        return (new.number, new.before) == (1, bytes(32)) and new.is_signed(place)
+    return old is not None and new.number == old.number + 1 and judged(place, present, value) is Change.VOUCHED
 
 
 def convicts(policy: Policy, name: str, before: bytes, now: bytes) -> bool:
