@@ -55,7 +55,7 @@ _COMMANDS = {
 _KINDS = {
     "entries": "two signed entries that one chain can't have convict the directory",
     "unvouched": "two replies convict the directory: the owner of the key in the first did not sign what the second shows",
-    "changed": "a reply shows another key than yours; it convicts nobody, since only you know your key",
+    "changed": "a reply shows another key than yours; alone it convicts nobody",
     "head": "an auditor cosigned a head that your chain lacks; it convicts nobody alone: ask the auditor for its entries",
 }
 

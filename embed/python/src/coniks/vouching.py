@@ -5,8 +5,9 @@
     later = following(place, secret, record, b"my next key")       # and change to these
     judged(place, record, later)                                   # VOUCHED: the owner of the record signed the change
 
-A friend who has a record refuses another one that the owner didn't sign, without monitoring. `convicts` decides it for everyone, from
-the replies that showed both. The module needs PyNaCl.
+A friend who has a record refuses another one that the owner didn't sign, without monitoring. If the directory's policy promises
+records (`Policy.records_vouched`), its service takes what `is_allowed` allows, and `convicts` decides for everyone whether two replies
+convict the directory. The module needs PyNaCl.
 """
 
 from __future__ import annotations
@@ -127,8 +128,10 @@ def is_allowed(place: Place, present: Optional[bytes], value: bytes) -> bool:
 
 
 def convicts(policy: Policy, name: str, before: bytes, now: bytes) -> bool:
-    """Whether two replies for a name convict the directory of a policy: the later one shows other bytes than the earlier one, which the
-    owner didn't sign, or none. Anyone can decide it."""
+    """Whether two replies for a name convict the directory of a policy that promises records: the later one shows other bytes than the
+    earlier one, which the owner didn't sign, or none. Anyone can decide it. Without the promise no change does."""
+    if not policy.records_vouched:
+        return False
     try:
         (first_epoch, old), (later_epoch, new) = (_shown(policy, name, it) for it in (before, now))
     except Refusal:

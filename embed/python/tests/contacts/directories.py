@@ -10,12 +10,17 @@ from http.server import BaseHTTPRequestHandler, ThreadingHTTPServer
 from typing import Any, Callable, Mapping, NamedTuple, Optional, Sequence
 from urllib.parse import parse_qs, urlsplit
 
-from client_world import FIRST, World
+from client_world import FIRST, POLICY, Batch, World, digest, policy_text
 
-# A directory whose epochs begin each hour.
+# A directory whose epochs begin each hour, and the policy of one that promises records of owners.
 BEGUN = [(1, FIRST), (2, {"carol": b"key of carol"})]
-WORLD = World(BEGUN)
+VOUCHED = policy_text(records_vouched=True)
 Batches = Sequence[tuple[int, Mapping[str, bytes]]]
+
+
+def vouched_world(batches: Sequence[tuple[int, Batch]]) -> World:
+    """A directory that promises records of owners."""
+    return World(batches, policy=digest(VOUCHED))
 
 
 class Reply(NamedTuple):
@@ -29,9 +34,9 @@ class Reply(NamedTuple):
 class Directory(AbstractContextManager["Directory"]):
     """A service on a port of its own. `lies` has a function for each path whose replies it makes, None for an honest one."""
 
-    def __init__(self, batches: Batches = BEGUN):
-        self.batches = [(epoch, dict(it)) for epoch, it in batches]
-        self.world = World(self.batches)
+    def __init__(self, batches: Batches = BEGUN, policy: str = POLICY):
+        self.policy, self.batches = policy, [(epoch, dict(it)) for epoch, it in batches]
+        self.renew()
         self.lies: dict[str, Callable[[Mapping[str, str]], Optional[Reply]]] = {}
         self.headers: dict[str, str] = {}
         self.note = b""
@@ -59,7 +64,11 @@ class Directory(AbstractContextManager["Directory"]):
     def commit(self, epoch: int, **keys: bytes) -> None:
         """Makes an epoch."""
         self.batches.append((epoch, keys))
-        self.world = World(self.batches)
+        self.renew()
+
+    def renew(self) -> None:
+        """Makes all epochs of the batches again."""
+        self.world = World(self.batches, policy=digest(self.policy))
 
     @property
     def latest(self) -> int:

@@ -11,12 +11,12 @@ from typing import Any, Callable, Mapping, Optional, Sequence
 
 import client_world
 from client_world import FIRST, PERIOD, START, World
-from directories import Directory, Reply
+from directories import VOUCHED, Directory, Reply, vouched_world
 from nacl.signing import SigningKey
 from coniks import Head, Policy
 from coniks.notes import Auditor, Note, cosign, quorum, text_of
 
-POLICY = Policy.read(client_world.POLICY.encode())
+POLICY = Policy.read(VOUCHED.encode())
 KEYS = [SigningKey(bytes([number] * 32)) for number in range(4)]
 AUDITORS = [Auditor(f"auditor{number}", bytes(key.verify_key)) for number, key in enumerate(KEYS)]
 # The name of the user, and those that the user's friend looks up.
@@ -218,7 +218,7 @@ class Schedule:
         self.faulty, self.batches = faulty, [[(1, dict(FIRST))]]
         # How often an epoch replaces a key, also of a service that withholds nothing.
         self.replacing = self.draw.choice([0.0, 0.1, 0.3])
-        self.transcript = Transcript([World(self.batches[0])], quorum(count, faulty))
+        self.transcript = Transcript([vouched_world(self.batches[0])], quorum(count, faulty))
         self.service = Service(self.draw, self.transcript)
         self.auditors = [Cosigner(number, self.transcript) for number in range(count)]
         self.seconds = client_world.hour(1)
@@ -237,14 +237,14 @@ class Schedule:
         for number, batches in enumerate(self.batches):
             if epoch > batches[-1][0]:
                 batches.append((epoch, self._drawn(number)))
-                self.transcript.worlds[number] = World(batches)
+                self.transcript.worlds[number] = vouched_world(batches)
         self.service.shown = self.draw.randrange(len(self.batches))
         self._cosign()
 
     def _fork(self) -> None:
         """Parts the chain: from now on each auditor is shown one of both."""
         self.batches.append([*self.batches[0][:-1], (self.batches[0][-1][0], {"carol": b"of the fork"})])
-        self.transcript.worlds.append(World(self.batches[1]))
+        self.transcript.worlds.append(vouched_world(self.batches[1]))
         for it in self.auditors:
             it.follows = self.draw.randrange(2)
 

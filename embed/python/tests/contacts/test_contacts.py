@@ -20,8 +20,8 @@ pytest.importorskip("nacl.signing")
 
 import client_world
 import vouched
-from client_world import World, digest, hour
-from directories import BEGUN, WORLD, Directory, Reply
+from client_world import World, hour
+from directories import BEGUN, VOUCHED, Directory, Reply, vouched_world
 from nacl.signing import SigningKey
 from sources import dripping
 from coniks import Head, Policy, _confirming, _http, _own_names, _person, contacts
@@ -31,24 +31,24 @@ from coniks.notes import Auditor, Note, cosign, text_of
 from coniks.vouching import Place, first, following
 
 TOP = Path(__file__).resolve().parents[4]
-POLICY = Policy.read(client_world.POLICY.encode())
+POLICY, WORLD = Policy.read(VOUCHED.encode()), vouched_world(BEGUN)
 NOW = hour(3)
 KEYS = {name: SigningKey(name.encode().ljust(32)) for name in ["one", "two", "three", "four"]}
 AUDITORS = {name: Auditor(name, bytes(key.verify_key)) for name, key in KEYS.items()}
 # A directory that parts from the honest one: at its latest epoch, before it, and by its numbers.
 FORKS = [
-    World([BEGUN[0], (2, {"alice": b"key of mallory"})]),
-    World([(1, {"alice": b"key of mallory"}), (2, {})]),
-    World([BEGUN[0], (3, {"alice": b"key of mallory"})]),
+    vouched_world([BEGUN[0], (2, {"alice": b"key of mallory"})]),
+    vouched_world([(1, {"alice": b"key of mallory"}), (2, {})]),
+    vouched_world([BEGUN[0], (3, {"alice": b"key of mallory"})]),
 ]
 
 
 class Person:
     """A client with its state, in the process of the test."""
 
-    def __init__(self, room: Path, capture: pytest.CaptureFixture[str]):
+    def __init__(self, room: Path, capture: pytest.CaptureFixture[str], policy: str = VOUCHED):
         self.room, self.state, self._capture = room, room / "state", capture
-        (room / "policy").write_bytes(bytes(POLICY))
+        (room / "policy").write_text(policy)
         (room / "token").write_text("a token\n")
 
     def run(self, command: str, *words: str) -> tuple[int, list[dict[str, Any]]]:
@@ -88,7 +88,7 @@ def clock(monkeypatch: pytest.MonkeyPatch) -> Clock:
 
 @pytest.fixture
 def directory(clock: Clock) -> Iterator[Directory]:
-    with Directory() as it:
+    with Directory(policy=VOUCHED) as it:
         clock.latest = lambda: it.latest
         yield it
 
@@ -130,7 +130,7 @@ def test_own_name(person: Person, directory: Directory) -> None:
     assert status == 0 and (lines[0]["key"], lines[0]["epochs"]) == ("key one", [3])
     record = directory.world.epochs[3].names[client_world.index("dave")][2]
     read = vouched.record_of(record)
-    assert read and (read.number, read.key) == (1, b"key one") and read.is_signed(digest(), b"dave")
+    assert read and (read.number, read.key) == (1, b"key one") and read.is_signed(POLICY.digest, b"dave")
     assert person.run("register", "dave", "key one")[0] == 0 and len(directory.operations) == 1, "once"
     directory.commit(4)
     directory.commit(5)
@@ -140,7 +140,7 @@ def test_own_name(person: Person, directory: Directory) -> None:
     assert status == 0 and lines[0]["epochs"] == [5, 6] and directory.operations[1]["op"] == "change"
     beside = ", which no auditor confirms"
     assert lines[0]["text"] == f'"dave" has your key "key one" (epoch 5{beside}) and "key two" (epoch 6{beside})'
-    assert vouched.compared(digest(), b"dave", record, changed) == "vouched"
+    assert vouched.compared(POLICY.digest, b"dave", record, changed) == "vouched"
     assert person.run("watch")[0] == 0 and not person.stored()["found"]
 
 
@@ -349,13 +349,13 @@ def friend_sees(person: Person, directory: Directory, record: bytes) -> None:
     other.begin(directory)
     assert other.run("verify", "dave", "key one")[0] == 0
     directory.batches.append((4, {"dave": record + b"x"}))
-    directory.world = World(directory.batches)
+    directory.renew()
     for words in [("lookup", "dave"), ("verify", "dave", "key one"), ("verify", "dave", "key onex")]:
         status, lines = other.run(*words)
         assert status == 1, words
     assert other.stored()["seen"]["dave"]["value"] == record.hex() and convicted(other) == ["unvouched"]
     directory.batches.pop()
-    directory.world = World(directory.batches)
+    directory.renew()
 
 
 def convicted(person: Person) -> list[str]:
@@ -391,7 +391,7 @@ def test_changes(
     assert person.run("lookup", "dave")[0] == 0
     value = change(record)
     if value is None:
-        removed = World([(1, {}), (2, {}), (4, {})])
+        removed = vouched_world([(1, {}), (2, {}), (4, {})])
         entry = resigned_after(directory.world, removed)
         clock.seconds = hour(4)
         pages = {"2": directory.world[3] + entry, "3": entry, "4": b""}
@@ -402,6 +402,23 @@ def test_changes(
     found, lines = person.run("lookup", "dave")
     assert (found, lines[0]["change"]) == (status, told) and ("l" if value else None) == lines[0]["key"]
     assert convicted(person) == ["unvouched"] if status else not person.stored()["found"]
+
+
+def test_changes_without_a_promise(tmp_path: Path, capsys: pytest.CaptureFixture[str], clock: Clock) -> None:
+    """A directory whose policy promises no records is convicted by no change. Owner and friend are told of it as before."""
+    it, friend = (Person(tmp_path, capsys, client_world.POLICY) for _ in range(2))
+    friend.state = tmp_path / "friend"
+    with Directory() as directory:
+        clock.latest = lambda: directory.latest
+        assert (it.begin(directory), friend.begin(directory)) == (0, 0)
+        assert it.run("register", "dave", "key one")[0] == 0 and friend.run("lookup", "dave")[0] == 0
+        directory.commit(4, dave=b"key of mallory")
+        assert is_alarm(it.run("watch"), 4)
+        status, lines = friend.run("lookup", "dave")
+        assert (status, lines[0]["change"]) == (1, "unvouched") and "did not sign the change: don't use it" in lines[0]["text"]
+    assert friend.run("evidence")[1][0]["text"] == "nothing was found that convicts the directory"
+    status, lines = it.run("evidence")
+    assert (status, [line["kind"] for line in lines]) == (1, ["changed"]) and lines[0]["text"].endswith("alone it convicts nobody")
 
 
 def resigned_after(world: World, removed: World) -> bytes:
@@ -802,16 +819,14 @@ def test_missing_epochs(person: Person, directory: Directory) -> None:
 def test_lost_epochs(tmp_path: Path, capsys: pytest.CaptureFixture[str], clock: Clock) -> None:
     """Epochs whose proofs are no longer promised are told by the sentence of docs/FORMATS.md."""
     text = client_world.policy_text(kept=7200)
-    it = Person(tmp_path, capsys)
-    (tmp_path / "policy").write_text(text)
-    with Directory() as directory:
-        directory.world = World(directory.batches, policy=digest(text))
+    it = Person(tmp_path, capsys, text)
+    with Directory(policy=text) as directory:
         assert it.begin(directory) == 0
         directory.commits = False
         it.run("register", "dave", "key one")
         for epoch in range(3, 9):
             directory.batches.append((epoch, {"dave": base64.b64decode(directory.operations[0]["key"])} if epoch == 3 else {}))
-        directory.world = World(directory.batches, policy=digest(text))
+        directory.renew()
         directory.lies["/v1/history"] = lambda query: Reply(directory.world.history("dave", 7, 8))
         clock.seconds = hour(9)
         status, lines = it.run("watch")
@@ -826,7 +841,7 @@ class Auditing(Directory):
     """An auditor: it has a directory's entries, and a note of one of its heads."""
 
     def __init__(self, name: str, batches: Any = BEGUN, epoch: int = 2, seconds: int = NOW):
-        super().__init__(batches)
+        super().__init__(batches, VOUCHED)
         self.pair, self._name = (self.url, str(AUDITORS[name])), name
         self.sign(epoch, seconds)
 

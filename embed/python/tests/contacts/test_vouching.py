@@ -2,7 +2,10 @@
 
 from __future__ import annotations
 
+import json
 import re
+import subprocess
+import sys
 from itertools import combinations, product
 from pathlib import Path
 from typing import Optional
@@ -15,15 +18,17 @@ import client_world
 import vouched
 from client_attacks import SMALL, mixed
 from client_world import World, digest
+from directories import VOUCHED, vouched_world
 from nacl.signing import SigningKey
 from coniks import Policy
 from coniks.vouching import Change, Place, Record, convicts, first, following, is_allowed, judged
 
-POLICY = Policy.read(client_world.POLICY.encode())
+POLICY = Policy.read(VOUCHED.encode())
 ALICE = Place(POLICY.digest, "alice")
 SECRETS = {name: SigningKey(name.encode().ljust(32)) for name in ["one", "other"]}
 ONE, OTHER = SECRETS["one"], SECRETS["other"]
-FORMATS = (Path(__file__).resolve().parents[4] / "docs/FORMATS.md").read_text("utf-8")
+TOP = Path(__file__).resolve().parents[4]
+FORMATS = (TOP / "docs/FORMATS.md").read_text("utf-8")
 
 
 def records() -> dict[str, Optional[bytes]]:
@@ -147,15 +152,25 @@ def test_wrong_secret() -> None:
             following(ALICE, ONE, before, b"l")
 
 
+def changed_world(text: str) -> World:
+    """A directory under a policy document that replaces a record by a key of its own."""
+    start = first(Place(digest(text), "alice"), ONE, b"k")
+    batches: list[tuple[int, client_world.Batch]] = [
+        (1, {"alice": start, "bob": start}),
+        (2, {"alice": b"key of mallory"}),
+        (4, {}),
+    ]
+    return World(batches, policy=digest(text))
+
+
 def test_replies() -> None:
     """Two replies convict if both are the directory's, for this name, and in the order of their epochs."""
-    start = first(ALICE, ONE, b"k")
-    world = World([(1, {"alice": start, "bob": start}), (2, {"alice": b"key of mallory"}), (4, {})])
-    vouched_world = World([(1, {"alice": start}), (2, {"alice": following(ALICE, ONE, start, b"l")})])
+    start, world = first(ALICE, ONE, b"k"), changed_world(VOUCHED)
+    signed = vouched_world([(1, {"alice": start}), (2, {"alice": following(ALICE, ONE, start, b"l")})])
     one, other = world.reply("alice", 1), world.reply("alice", 4)
     assert convicts(POLICY, "alice", one, other) and convicts(POLICY, "alice", one, world.reply("alice", 2))
-    assert not convicts(POLICY, "alice", one, vouched_world.reply("alice", 2))
-    policy = Policy("keys.example.org", POLICY.signing_key, POLICY.vrf_key)
+    assert not convicts(POLICY, "alice", one, signed.reply("alice", 2))
+    policy = Policy("keys.example.org", POLICY.signing_key, POLICY.vrf_key, records_vouched=True)
     for first_reply, second_reply in product([one, other, world.reply("bob", 1), one[:-1], b""], repeat=2):
         is_pair = (first_reply, second_reply) == (one, other)
         assert convicts(POLICY, "alice", first_reply, second_reply) is is_pair
@@ -164,3 +179,36 @@ def test_replies() -> None:
         altered = other[:at] + bytes([other[at] ^ 1]) + other[at + 1 :]
         # The signature covers the entry; what isn't signed is under its root, or a proof of the VRF.
         assert not convicts(POLICY, "alice", one, altered), at
+
+
+@pytest.mark.parametrize("text, is_promised", [(VOUCHED, True), (client_world.POLICY, False)], ids=["promised", "not promised"])
+def test_only_a_promise_convicts(text: str, is_promised: bool, tmp_path: Path) -> None:
+    """The same replies convict a directory whose policy has the line, and no other: neither here nor in the second implementation."""
+    world, policy = changed_world(text), Policy.read(text.encode())
+    one, other = world.reply("alice", 1), world.reply("alice", 2)
+    assert judged(Place(policy.digest, "alice"), world.epochs[1].names[client_world.index("alice")][2], b"key of mallory") is (
+        Change.UNVOUCHED
+    ), "a friend refuses the change in both"
+    assert convicts(policy, "alice", one, other) is is_promised
+    line = json.dumps({"kind": "unvouched", "name": "alice", "evidence": [one.hex(), other.hex()], "policy": text})
+    (tmp_path / "policy").write_text(text)
+    assert second_convicts(tmp_path / "policy", line) == ((0, "unvouched") if is_promised else (1, "no evidence"))
+
+
+def second_convicts(policy: Path, line: str) -> tuple[int, str]:
+    """The status of the second implementation, and what it says of a line of evidence."""
+    words = [sys.executable, str(TOP / "cases/second/convicts"), str(policy)]
+    ran = subprocess.run(words, input=line + "\n", capture_output=True, text=True)
+    return ran.returncode, ran.stdout.partition(":")[0].strip()
+
+
+def test_a_promise_of_another_directory(tmp_path: Path) -> None:
+    """Replies of a directory without the line don't convict under a document with it, which they don't sign, or under no document."""
+    world = changed_world(client_world.POLICY)
+    one, other = world.reply("alice", 1), world.reply("alice", 2)
+    line = json.dumps({"kind": "unvouched", "name": "alice", "evidence": [one.hex(), other.hex()], "policy": VOUCHED})
+    assert not convicts(POLICY, "alice", one, other)
+    (tmp_path / "policy").write_text(VOUCHED)
+    assert second_convicts(tmp_path / "policy", line) == (1, "no evidence")
+    (tmp_path / "policy").write_text(client_world.POLICY + "records vouched\n")
+    assert second_convicts(tmp_path / "policy", line) == (2, "")
