@@ -696,7 +696,7 @@ def test_rights(person: Person) -> None:
     """The state has secret keys: nobody else reads it, whatever is in its place before. A symbolic link stays."""
     assert person.state.stat().st_mode & 0o777 == 0o600
     left = person.room / "state.new"
-    left.write_text("left")
+    left.write_text("coniks-client 1 left")
     left.chmod(0o666)
     assert person.run("lookup", "alice")[0] == 0 and person.state.stat().st_mode & 0o777 == 0o600 and not left.exists()
     person.state.rename(person.room / "real")
