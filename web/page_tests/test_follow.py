@@ -18,7 +18,7 @@ from client_world import FIRST, World, hour
 from coniks import Head, Policy
 from coniks.notes import Auditor, Note, cosign, text_of
 from coniks.vouching import Place, Record, convicts, first, following
-from directories import Directory, Reply
+from directories import VOUCHED, Batches, Directory, Reply
 from nacl.signing import SigningKey
 
 FOLLOW = WEB / "out/follow.html"
@@ -36,9 +36,16 @@ FORK = World([BEGUN[0], (2, {"alice": b"key of mallory"})])
 DONE = "document.getElementById('state')?.dataset.done === 'true'"
 
 
-def note(world: World, epoch: int, *names: str, seconds: int = 0, keys: Optional[dict[str, SigningKey]] = None) -> bytes:
+def note(
+    world: World,
+    epoch: int,
+    *names: str,
+    seconds: int = 0,
+    keys: Optional[dict[str, SigningKey]] = None,
+    policy: Policy = POLICY,
+) -> bytes:
     """A head that auditors cosigned, in the epoch after it if nothing else is said."""
-    text = text_of(POLICY, Head(epoch, world.link(epoch)))
+    text = text_of(policy, Head(epoch, world.link(epoch)))
     lines = [cosign(it, (keys or KEYS)[it], text, seconds or hour(epoch + 1)) for it in names or ("one", "two")]
     return bytes(Note(text, tuple(lines)))
 
@@ -46,17 +53,17 @@ def note(world: World, epoch: int, *names: str, seconds: int = 0, keys: Optional
 class Site(Directory):
     """A service that has the page, at an origin of its own."""
 
-    def __init__(self) -> None:
-        super().__init__(BEGUN)
+    def __init__(self, batches: Batches = BEGUN, policy: str = client_world.POLICY) -> None:
+        super().__init__(batches, policy)
         page = FOLLOW.read_bytes()
         self.lies["/"] = lambda _: Reply(page, headers={"Content-Type": "text/html"})
         self.lies["/v1/head"] = lambda _: Reply(b"{}")
-        self.note = note(self.world, 2)
+        self.note = note(self.world, 2, policy=Policy.read(policy.encode()))
 
     def confirmed(self, epoch: int, **keys: bytes) -> None:
         """Makes an epoch, and has both auditors cosign it."""
         self.commit(epoch, **keys)
-        self.note = note(self.world, epoch, seconds=hour(epoch))
+        self.note = note(self.world, epoch, seconds=hour(epoch), policy=Policy.read(self.policy.encode()))
 
     def carry(self, **notes: bytes) -> None:
         """Carries a note of each auditor, and none of several."""
@@ -231,18 +238,37 @@ CHANGED = {
 
 @pytest.mark.parametrize("value", CHANGED.values(), ids=CHANGED)
 def test_unvouched_change(visitor: Visitor, value: bytes) -> None:
-    """A key in the place of a record that was shown, which its owner didn't sign, is an alarm. What is kept convicts the directory."""
+    """A key in the place of a record that was shown, which its owner didn't sign, is told at each lookup. Without a promise of the policy
+    it convicts nobody, and other names are looked up as before."""
     visitor.begin()
     assert visitor.look("alice").startswith("Verified and stored")
     visitor.site.confirmed(3, alice=value)
-    said = visitor.look("alice")
-    assert "The owner of the key before did not sign the change: don't use it." in said and not visitor.is_verified
-    assert 'in place of "key of alice" at epoch 3.' in said and "of its owner" not in said
     for _ in range(2):
-        kind, before, now = texts(visitor.browser, "#alarms pre")[0].split("\n")
-        assert kind == "unvouched" and convicts(POLICY, "alice", bytes.fromhex(before), bytes.fromhex(now))
+        said = visitor.look("alice")
+        assert "The owner of the key before did not sign the change: don't use it." in said and not visitor.is_verified
+        assert 'in place of "key of alice" at epoch 3.' in said and "of its owner" not in said
+        assert count(visitor.browser, "#result .bad") == 1 and count(visitor.browser, "#alarms pre") == 0
         visitor.open()
-    assert visitor.look("bob") and not visitor.is_verified and count(visitor.browser, "#opinions .good") == 0
+    assert visitor.look("nobody") and visitor.is_verified
+
+
+def test_broken_promise(anywhere: Browser) -> None:
+    """Under a policy that promises records it is an alarm that stays, and what is kept convicts the directory."""
+    policy = Policy.read(VOUCHED.encode())
+    place = Place(policy.digest, "alice")
+    record, other = (first(place, KEYS[it], b"key of alice") for it in ("alice", "other"))
+    with Site([(1, {"alice": record}), (2, {})], VOUCHED) as site:
+        visitor = Visitor(anywhere, site)
+        visitor.begin(VOUCHED)
+        assert visitor.look("alice").startswith("Verified and stored")
+        site.confirmed(3, alice=other)
+        visitor.look("alice")
+        for _ in range(2):
+            kind, before, now = texts(visitor.browser, "#alarms pre")[0].split("\n")
+            assert kind == "unvouched" and convicts(policy, "alice", bytes.fromhex(before), bytes.fromhex(now))
+            visitor.open()
+        assert visitor.look("nobody") and not visitor.is_verified and count(visitor.browser, "#opinions .good") == 0
+        visitor.close()
 
 
 def test_hostile_key(visitor: Visitor) -> None:

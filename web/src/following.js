@@ -204,10 +204,10 @@ export class Follower {
     const [place, seen, record] = [{ policy: it.policy.digest, name }, new Map(it.kept.seen), readRecord(key)];
     const before = seen.get(name);
     const change = before === undefined ? null : await judged(place, shownBy(before).key, key);
-    if (before !== undefined && change === "unvouched") this.#alarm(it, { kind: "unvouched", who: name, parts: [before, toHex(reply)] });
+    if (before !== undefined && change === "unvouched" && it.policy.recordsVouched) this.#alarm(it, { kind: "unvouched", who: name, parts: [before, toHex(reply)] });
     const isRecord = record !== null && (await isSigned(record, place));
     const isAlarmed = it.kept.found.length > 0;
-    const isGood = agreement.epoch !== null && !isAlarmed && (isRecord || key === null);
+    const isGood = agreement.epoch !== null && !isAlarmed && change !== "unvouched" && (isRecord || key === null);
     if (isGood && isRecord) it.kept = { ...it.kept, seen: [...seen.set(name, toHex(reply))] };
     return { isRecord, change, isGood, isAlarmed };
   }
