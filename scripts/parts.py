@@ -237,7 +237,7 @@ PYTHON = [
             *tests("contacts", "*"),
             "embed/python/bin/coniks-client",
         ],
-        tests("contacts", "test_contacts", "test_trust"),
+        tests("contacts", "test_contacts", "test_confirming", "test_trust"),
         library=True,
     ),
     Part(

@@ -17,7 +17,7 @@ import client_world
 from coniks import contacts
 from coniks.client import Client
 from schedules import CONTACTS, OWN, Run, Schedule, unjustified
-from test_contacts import Person
+from people import Person
 
 STEPS = 12
 

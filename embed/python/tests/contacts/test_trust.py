@@ -15,10 +15,9 @@ from coniks import contacts
 from coniks.notes import Auditor
 from coniks.trust import Trust
 from directories import Directory
-from test_contacts import AUDITORS, POLICY, TOP, Auditing, Person, auditors, clock, directory
+from people import AUDITORS, POLICY, Auditing, Person
 
-__all__ = ["auditors", "clock", "directory"]
-
+TOP = Path(__file__).resolve().parents[4]
 PAGE = (TOP / "docs/FORMATS.md").read_text("utf-8")
 POLICY_DIGEST = PAGE.partition("Its SHA-256 is `")[2][:64]
 FORMATS = PAGE.partition("### The trust document")[2].partition("\n## ")[0]
