@@ -75,6 +75,8 @@ class Host:
         # Groups of lookups that wait for the thread, each with where its answers go.
         self._asked: SimpleQueue[Any] = SimpleQueue()
         self._thread = Worker(self._look_after)
+        # Ends the children: an interrupt amid that would leave a lock of `subprocess` behind, for which the next call waits for ever.
+        self._ending = Worker()
 
     def verify_by(self, verify: Optional[Verify]) -> None:
         """Has the signatures of snapshots verified by another function from now on."""
@@ -359,11 +361,18 @@ class Host:
         """Ends the thread and the children without waiting for them."""
         self.is_closed = True
         self._thread.stop()
+        self._ending.stop()
         if self.engine:
             self.engine.children.kill()
 
     def close(self) -> None:
-        """Ends the thread and the children."""
+        """Ends the threads and the children. An interrupt ends only the wait."""
+        # Another call may have ended them.
+        with suppress(Closed):
+            self._ending.call(self._close)
+        self._ending.stop()
+
+    def _close(self) -> None:
         self.is_closed = True
         self._thread.stop()
         self._thread.join(0.2)

@@ -55,7 +55,8 @@ class Worker:
         return not self._thread.is_alive()
 
     def is_this_thread(self) -> bool:
-        return threading.get_ident() == self._thread.ident
+        # The number of a thread that has ended is used again.
+        return threading.current_thread() is self._thread
 
     def _run(self) -> None:
         while True:

@@ -27,6 +27,7 @@ from stand_ins import HERE, POLICY, Salted, Signer, audited, has_ended, index, k
 from raising import raises
 from coniks import provider
 from coniks._engine import Sample
+from coniks._threads import Worker
 from coniks.guard import Guard
 from coniks.provider import Change, Epoch, FileLog, Lookup, Provider, Register, entries
 
@@ -686,13 +687,52 @@ def test_threads(program: str) -> None:
         assert own.latest().epoch == 8, "threads: the provider goes on"
 
 
+def test_close_by_a_thread(program: str) -> None:
+    """A caller of `close` runs nothing of `subprocess`, so that an interrupt leaves none of its locks behind."""
+    with Room(program) as it:
+        it.provider.commit(1, [])
+        seen, pid = list[str](), it.provider.pid
+
+        def profiled(frame: Any, event: str, _: object) -> None:
+            if frame.f_code.co_filename == subprocess.__file__:
+                seen.append(frame.f_code.co_name)
+
+        sys.setprofile(profiled)
+        try:
+            it.provider.close()
+            it.provider.close()
+        finally:
+            sys.setprofile(None)
+        assert not seen and pid and has_ended(pid), seen
+
+
+def test_number_used_again() -> None:
+    """A thread that has the number of a worker's thread, which has ended, isn't that thread."""
+    worker, found = Worker(), list[bool]()
+    number = worker._thread.ident
+    worker.stop()
+    assert worker.join(20)
+
+    def compared() -> None:
+        if threading.get_ident() == number:
+            found.append(worker.is_this_thread())
+
+    for _ in range(1000):
+        thread = threading.Thread(target=compared)
+        thread.start()
+        thread.join()
+    if not found:
+        pytest.skip("no thread got the same number")
+    assert not any(found)
+
+
 def test_abandoned(program: str) -> None:
     """A provider that nobody closes: its threads and its child end with it."""
     with tempfile.TemporaryDirectory() as room, FileLog(Path(room) / "log") as log:
         before = {*threading.enumerate()}
         own = opened(program, log, Signer(room, Salted()), create=True)
         pid, started = own.pid or 0, {*threading.enumerate()} - before
-        assert len(started) == 3
+        assert len(started) == 4
         del own
         gc.collect()
         assert soon(lambda: not any(it.is_alive() for it in started)), "its threads end"
