@@ -2,6 +2,7 @@
 
 from __future__ import annotations
 
+import errno
 import fcntl
 import os
 import select
@@ -21,6 +22,8 @@ DIFFER = "two children answer one line differently: the machine or the program i
 # What follows a line that one of two children takes. Once it has answered a batch it frees memory, which takes milliseconds: lookups
 # go to it again after the answer to this.
 _LATEST = b'{"cmd":"latest"}\n'
+# Errors of a program's file. Others are of the machine, such as too many open files.
+_OF_PATHS = (errno.ENOENT, errno.EACCES, errno.ENOEXEC, errno.ENOTDIR, errno.ELOOP, errno.ENAMETOOLONG)
 _NOT_ASKED = "the program isn't asked after an error, or once another one took its place: ask again"
 
 
@@ -33,7 +36,8 @@ class Child:
             pipe = subprocess.PIPE
             self._process = subprocess.Popen(words, stdin=pipe, stdout=pipe, bufsize=0, start_new_session=True)
         except OSError as error:
-            raise ProgramFailed(f"the program {words[0]} can't be started: {error.strerror}. Look at its path") from error
+            advice = "Look at its path" if error.errno in _OF_PATHS else "Free what is missing, and try again"
+            raise ProgramFailed(f"the program {words[0]} can't be started: {error.strerror}. {advice}") from error
         assert self._process.stdin and self._process.stdout
         self._in, self._out = self._process.stdin.fileno(), self._process.stdout.fileno()
         self._timeout, self.is_sound = timeout, True

@@ -316,7 +316,11 @@ class Guard:
         """Stores a text durably if the record has the text `before`. Returns whether it did."""
         flags = os.O_RDWR | os.O_CREAT | os.O_CLOEXEC | os.O_NOFOLLOW | os.O_NONBLOCK | os.O_NOCTTY
         try:
-            with io.FileIO(f"{self._path}.lock", "r+", opener=lambda path, _: os.open(path, flags, 0o600)) as lock:
+            opened = io.FileIO(f"{self._path}.lock", "r+", opener=lambda path, _: os.open(path, flags, 0o600))
+        except OSError as error:
+            raise self._failed(f"locked by {self._path}.lock", error) from error
+        try:
+            with opened as lock:
                 return self._swap_under(lock, before, after)
         except OSError as error:
             raise self._failed("written", error) from error

@@ -365,7 +365,8 @@ def test_beside(room: str) -> None:
             place.unlink()
         place.mkdir()
         call: Call = lambda: bench.guard(after(bench.last))
-        refused(f"beside: a folder {place.name}", RecordFailed, bench, call, "can't be written", "try again")
+        what = f"can't be locked by {lock}: " if place == lock else "can't be written: "
+        refused(f"beside: a folder {place.name}", RecordFailed, bench, call, what, "try again")
         place.rmdir()
     for text in (b"a letter", b"{}"):
         new.write_bytes(text)

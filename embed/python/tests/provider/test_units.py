@@ -296,11 +296,15 @@ def test_broken_program(tmp_path: Path, what: str) -> None:
 
 def test_program(program: str) -> None:
     """A program that isn't there, and children that are killed."""
-    raises(
-        "a program that isn't there",
-        provider.ProgramFailed,
-        lambda: Provider("/nowhere/provider", index, Salted().sign, OneLine(), policy=POLICY),
-    )
+
+    def start(at: str) -> Provider:
+        return Provider(at, index, Salted().sign, OneLine(), policy=POLICY)
+
+    raised = raises("a program that isn't there", provider.ProgramFailed, lambda: start("/nowhere/provider"))
+    assert "Look at its path" in str(raised)
+    with mock.patch.object(subprocess, "Popen", side_effect=OSError(24, "Too many open files")):
+        raised = raises("a machine without room for it", provider.ProgramFailed, lambda: start(program))
+    assert "Too many open files. Free what is missing" in str(raised)
     with Room(program, timeout=60) as it:
         made = it.provider.commit(1, [Register(f"user-{n}", bytes(16000)) for n in range(200)])
         before = it.provider.pid
