@@ -53,7 +53,8 @@ class Asked:
 
 
 class Collector:
-    """The operations by their names, and those that were decided lately. The event loop alone changes them."""
+    """The operations by their names, and those that were decided lately. The event loop alone changes them. Raises ValueError if `authorise`
+    doesn't keep what the policy promises."""
 
     def __init__(self, holder: Holder, authorise: Authorise, is_late: bool = False):
         check_promise(holder.keys.policy, authorise)

@@ -41,8 +41,7 @@ _FOR_EVER = "max-age=31536000, immutable"
 
 
 class Endpoints:
-    """The handlers. Each call of the directory that waits is made by a thread, and none of them waits for a commit. Raises ValueError if
-    `authorise` doesn't keep what the policy promises."""
+    """The handlers. Each call of the directory that waits is made by a thread, and none of them waits for a commit."""
 
     def __init__(self, collector: Collector, stapler: Stapler, metrics: Metrics, bounds: Bounds):
         self._collector, self._stapler, self._metrics = collector, stapler, metrics
