@@ -19,8 +19,8 @@ from problems import Problem
 
 # The most operations of a batch. No more are collected.
 MOST = 4096
-# The seconds until the clock is read again, and a commit that failed is tried again.
-_PAUSE = 0.3
+# The seconds until the clock is read again, and the most until a commit that failed is tried again.
+_PAUSE, _LONGEST_PAUSE = 0.3, 5
 Result = TypeVar("Result")
 
 
@@ -118,9 +118,14 @@ class Collector:
     async def run(self) -> None:
         """Commits at each epoch, until it is cancelled. Raises `Overtaken` once another process writes, so that this one ends: it must
         not take the log back by itself."""
+        pids = list[int]()
         while True:
             await self.commit()
-            await asyncio.sleep(_PAUSE)
+            if (now := self.holder.directory.pids) != pids:
+                # Others took the place of those that ended, or that a snapshot replaced.
+                LOG.info("children", extra={"members": {"pids": now, "before": pids}})
+                pids = now
+            await asyncio.sleep(min(_PAUSE * 2 ** min(self.failures, 9), _LONGEST_PAUSE))
 
     async def stop(self) -> None:
         """Commits what is collected if the clock has another epoch, and refuses the rest."""
@@ -146,7 +151,9 @@ class Collector:
             raise
         except Exception as error:
             self.failures += 1
-            LOG.error("commit failed", extra=error_of(error))
+            # Once, and then ever more rarely.
+            if self.failures.bit_count() == 1:
+                LOG.error("commit failed", extra=error_of(error, failures=self.failures))
 
     def _next(self, provider: Provider) -> Optional[int]:
         """The epoch of the batch. If there is none, that of the clock is begun if it is a new one."""

@@ -126,6 +126,6 @@ def link_of(entry: bytes) -> bytes:
     return hashlib.sha256(b"S" + entry).digest()
 
 
-def error_of(error: Exception, **more: str) -> dict[str, Any]:
+def error_of(error: Exception, **more: Union[str, int]) -> dict[str, Any]:
     """What the log has of an error."""
     return {"members": {**more, "error": f"{type(error).__name__}: {error}"}}

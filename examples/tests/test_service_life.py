@@ -4,6 +4,7 @@ signer, the log or another machine stands in the way."""
 from __future__ import annotations
 
 import asyncio
+import os
 import random
 import signal
 import sys
@@ -303,6 +304,49 @@ def test_end_amid_a_commit(program: str, tmp_path: Path, monkeypatch: pytest.Mon
             return asked.outcome.result()
 
         assert asyncio.run(story()) == holder.provider.chain()[-1] and holder.provider.latest().epoch == 2
+
+
+def test_failing_commits(program: str, tmp_path: Path, monkeypatch: pytest.MonkeyPatch, caplog: pytest.LogCaptureFixture) -> None:
+    """A commit that goes on failing is logged ever more rarely, and tried again after growing pauses. Each failure is counted."""
+    with made(program, tmp_path) as holder:
+        collector, pauses = collector_of(holder), list[float]()
+
+        def failing(*_: object, **__: object) -> None:
+            raise LogRefused("no room")
+
+        async def pause(seconds: float) -> None:
+            pauses.append(seconds)
+            if len(pauses) == 20:
+                raise asyncio.CancelledError
+
+        monkeypatch.setattr(type(holder.provider), "commit", failing)
+        monkeypatch.setattr(asyncio, "sleep", pause)
+        with suppress(asyncio.CancelledError):
+            asyncio.run(collector.run())
+        assert collector.failures == 20 and pauses == sorted(pauses) and pauses[0] < 1 and pauses[-1] == 5
+        logged = [vars(it)["members"]["failures"] for it in caplog.records if it.getMessage() == "commit failed"]
+        assert logged == [1, 2, 4, 8, 16]
+
+
+def test_killed_child(program: str, tmp_path: Path, caplog: pytest.LogCaptureFixture) -> None:
+    """A child that is killed, and started again, leaves a line."""
+    caplog.set_level("INFO")
+    with made(program, tmp_path) as holder:
+
+        async def story() -> int:
+            running = asyncio.create_task(collector_of(holder).run())
+            before = holder.provider.pid
+            await asyncio.sleep(0.5)
+            os.kill(before, signal.SIGKILL)
+            await asyncio.to_thread(until, lambda: bool(holder.provider.pid != before))
+            await asyncio.sleep(1)
+            running.cancel()
+            await asyncio.gather(running, return_exceptions=True)
+            return int(before)
+
+        killed = asyncio.run(story())
+        lines = [vars(it)["members"] for it in caplog.records if it.getMessage() == "children"]
+        assert lines[0]["pids"] == [killed] and lines[-1]["pids"] == [holder.provider.pid] != [killed]
 
 
 def test_long_stop(program: str, tmp_path: Path, monkeypatch: pytest.MonkeyPatch) -> None:
