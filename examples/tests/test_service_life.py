@@ -338,7 +338,8 @@ def test_killed_child(program: str, tmp_path: Path, caplog: pytest.LogCaptureFix
             before = holder.provider.pid
             await asyncio.sleep(0.5)
             os.kill(before, signal.SIGKILL)
-            await asyncio.to_thread(until, lambda: bool(holder.provider.pid != before))
+            while holder.provider.pid == before:
+                await asyncio.sleep(0.1)
             await asyncio.sleep(1)
             running.cancel()
             await asyncio.gather(running, return_exceptions=True)

@@ -257,7 +257,8 @@ def test_broken_promise(anywhere: Browser) -> None:
     policy = Policy.read(VOUCHED.encode())
     place = Place(policy.digest, "alice")
     record, other = (first(place, KEYS[it], b"key of alice") for it in ("alice", "other"))
-    with Site([(1, {"alice": record}), (2, {})], VOUCHED) as site:
+    site = Site([(1, {"alice": record}), (2, {})], VOUCHED)
+    with site:
         visitor = Visitor(anywhere, site)
         visitor.begin(VOUCHED)
         assert visitor.look("alice").startswith("Verified and stored")

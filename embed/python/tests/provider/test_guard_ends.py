@@ -67,6 +67,7 @@ class Disk:
         self._left -= 1
         if not self._left and not self._is_after:
             raise self._error()
+        returned: Any = None
         try:
             if name == "fsync":
                 real = self._sync
@@ -77,7 +78,7 @@ class Disk:
             if self._left:
                 raise
         if not self._left:
-            if name == "open":
+            if name == "open" and returned is not None:
                 os.close(returned)
             raise self._error()
         return returned
