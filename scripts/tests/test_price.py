@@ -33,7 +33,9 @@ def test_price(tmp_path: Path) -> None:
     assert rows[0] == ["minutes", "proof", "tests", "seed", "edits", "compilers", "all"]
     assert rows[1] == ["low", "1.0", "0.0", "0.0", "0.5", "0.0", "1.5"]
     assert rows[2] == ["high", "2.0", "0.0", "0.0", "0.0", "0.0", "2.0"]
-    assert [it[0] for it in rows] == ["minutes", "low", "high", "top", "all", "not"] and rows[4][-1] == "3.5" and "top." in rows[5]
+    assert [it[0] for it in rows] == ["minutes", "low", "high", "all", "not"] and rows[3][-1] == "3.5" and "top." in rows[4]
+    (tmp_path / "out/minutes.json").unlink()
+    assert price(tmp_path, "low").stdout.startswith("not measured here: low high top."), "nothing is said of what isn't known"
 
 
 @pytest.mark.parametrize("words", [[], ["another"], ["low", "high"], ["--help"]])
