@@ -4,6 +4,7 @@ from __future__ import annotations
 
 import socket
 import threading
+import time
 from contextlib import closing
 from dataclasses import dataclass
 from http.client import HTTPConnection, HTTPException, HTTPSConnection
@@ -13,11 +14,13 @@ from urllib.parse import urlsplit
 from . import BODY_LENGTH, ENTRY_LENGTH
 from ._messages import catch_up_entries
 from .client import Client
+from .notes import SKEW
+from .policy import Policy
 
 # The most seconds that a connection and a whole reply may take.
 CONNECTING, SECONDS = 10.0, 30.0
-# The most bytes of a page, which has 1,000 entries.
-PAGE = 1000 * ENTRY_LENGTH
+# The most bytes of a page, which has 1,000 entries, and the most pages and seconds of a call.
+PAGE, PAGES, LONGEST = 1000 * ENTRY_LENGTH, 100, 300.0
 
 
 class Unusable(Exception):
@@ -70,13 +73,31 @@ def fetched(url: str, most: int = PAGE) -> bytes:
     return found.body
 
 
+def check_time(client: Client, policy: Policy, entry: bytes, source: str) -> None:
+    """Raises `Unusable` for an entry of an epoch that begins later than now, unless it convicts the directory. Else one entry of a far
+    epoch would end the chain of whoever takes it."""
+    epoch, start, period = int.from_bytes(entry[1:9], "big"), policy.epoch_start, policy.epoch_period
+    if (
+        start is not None
+        and period is not None
+        and start + (epoch - 1) * period > time.time() + SKEW
+        and not client.evidence(entry)
+    ):
+        raise Unusable(f"{source} shows epoch {epoch}, which begins later than now: its clock is ahead, or yours is slow")
+
+
 def new_entries(client: Client, source: str, is_whole: bool = False) -> Iterator[bytes]:
     """The entries that a service or an auditor has and a client lacks. They are asked for from the client's latest one on, so that
-    another one in its place is noticed; or from the first one on, since only whole entries convict. Raises `Unusable` and `Refusal`.
+    another one in its place is noticed; or from the first one on, since only whole entries convict. Raises `Unusable` and `Refusal`. A
+    source that never ends is left after some pages or minutes, and the next call goes on.
     """
     known, latest = {it[:BODY_LENGTH] for it in client.entries}, (client.entries or [bytes(ENTRY_LENGTH)])[-1]
     start = after = 0 if is_whole else int.from_bytes(latest[9:17], "big")
+    pages, until = 0, time.monotonic() + LONGEST
     while page := catch_up_entries(fetched(f"{source}/v1/entries?after={after}")):
+        if pages and (pages >= PAGES or time.monotonic() > until):
+            raise Unusable(f"{source} has more entries than are taken at once: the next run goes on")
+        pages += 1
         epochs = [after, *(int.from_bytes(it[1:9], "big") for it in page)]
         if epochs != sorted(set(epochs)):
             raise Unusable(f"{source}: its entries do not rise")

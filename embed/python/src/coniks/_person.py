@@ -10,7 +10,7 @@ from urllib.parse import quote
 
 from . import Policy
 from ._client_state import StateFile
-from ._http import Answer, Unusable, answered, new_entries
+from ._http import Answer, Unusable, answered, check_time, new_entries
 from ._telling import ALARM, UNVERIFIED, Telling
 from .client import Client, Found, Refusal
 from .notes import Auditor, BadNote
@@ -97,6 +97,7 @@ class Person:
         """Takes all entries that the service has."""
         try:
             for entry in new_entries(self.chain, self.state["service"]):
+                check_time(self.chain, self.policy, entry, "the service")
                 self.chain.feed([entry])
         finally:
             self.save()

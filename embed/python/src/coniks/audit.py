@@ -31,7 +31,7 @@ from nacl.signing import SigningKey
 
 from . import ENTRY_LENGTH, Policy, __version__
 from ._files import lock, rewrite
-from ._http import PAGE, Unusable, fetched, new_entries
+from ._http import PAGE, Unusable, check_time, fetched, new_entries
 from .client import Cause, Client, Comparison, Refusal
 from .notes import Auditor, BadNote, Note, cosign, read_note, text_of
 
@@ -117,6 +117,7 @@ class Audit:
         count, entry = len(self._client.entries), b""
         try:
             for entry in new_entries(self._client, source, is_whole):
+                check_time(self._client, self._policy, entry, source)
                 self._client.feed([entry])
         except Refusal as error:
             if error.cause in _HARMLESS:

@@ -26,7 +26,7 @@ from .policy import Policy
 
 __all__ = ["Auditor", "BadNote", "Note", "cosign", "is_agreed", "quorum", "read_note", "text_of"]
 
-# The most seconds by which an auditor's clock may be ahead.
+# The most seconds by which the clock of an auditor or of a directory may be ahead.
 SKEW = 300
 _COSIGNATURE = b"\x04"  # the type of tlog-cosignature
 _NAME = re.compile("[!-*,-~]{1,255}")

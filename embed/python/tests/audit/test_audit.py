@@ -36,7 +36,7 @@ from coniks.notes import Auditor, Note, cosign, read_note, text_of
 POLICY = Policy.read(client_world.POLICY.encode())
 KEYS = {name: SigningKey(name.encode().ljust(32)) for name in ["one", "other"]}
 AUDITORS = {name: Auditor(name, bytes(key.verify_key)) for name, key in KEYS.items()}
-NOW = client_world.hour(6)
+NOW, LATEST = client_world.hour(6), max(WORLD.epochs)
 
 
 class Room:
@@ -157,6 +157,36 @@ def test_harmless(room: Room, capsys: pytest.CaptureFixture[str]) -> None:
         assert room.once(url) == 3
     assert not room.alarm and room.read("entries") in (b"", first)
     assert "Traceback" not in capsys.readouterr().err
+
+
+def test_future_entries(room: Room, monkeypatch: pytest.MonkeyPatch) -> None:
+    """Epochs that begin later than now are not taken, whatever is signed, and so they don't end the chain. One that convicts does."""
+    far = World([*client_world.BATCHES, (1 << 63, {})])
+    with Source(far.entries()) as source:
+        assert room.once(source.url) == 3 and room.head == head_of(WORLD, LATEST) and not room.alarm
+        assert len(room.read("entries")) == 209 * len(WORLD.entries())
+        source.entries = World([*client_world.BATCHES, (LATEST + 1, {})]).entries()
+        monkeypatch.setattr(time, "time", lambda: client_world.START + LATEST * client_world.PERIOD - 301)
+        assert room.once(source.url) == 3 and room.head and room.head.epoch == LATEST
+        monkeypatch.setattr(time, "time", lambda: client_world.START + LATEST * client_world.PERIOD - 299)
+        assert room.once(source.url) == 0 and room.head and room.head.epoch == LATEST + 1
+        source.entries = World([*client_world.BATCHES[:-1], (1 << 63, {"alice": b"other"})]).entries()
+        assert room.once(source.url) == 1 and room.alarm["why"] == "EQUIVOCATION"
+
+
+@pytest.mark.parametrize("limit", ["PAGES", "LONGEST"])
+def test_endless_entries(room: Room, limit: str, monkeypatch: pytest.MonkeyPatch) -> None:
+    """What is taken at once is bounded, and the next round goes on."""
+    world = World([(it, {}) for it in range(1, 30)])
+    monkeypatch.setattr(time, "time", lambda: client_world.hour(30))
+    monkeypatch.setattr(_http, limit, 3 if limit == "PAGES" else 0.0)
+    with Source([]) as source:
+        source.page = lambda after: b"".join(world[it] for it in range(after + 1, min(after + 6, 30)))
+        rounds = 0
+        while room.once(source.url) == 3:
+            rounds += 1
+            assert rounds < 20, "it goes on"
+        assert rounds > 0 and room.head and room.head.epoch == 29
 
 
 def test_dripping_service(room: Room, monkeypatch: pytest.MonkeyPatch) -> None:
