@@ -77,6 +77,23 @@ fn little_at_a_time(rt: HostRuntime) {
     }
 }
 
+/// The number of bytes of a long line.
+const LONG: usize = 9 << 20;
+
+/// A line of nine mebibytes is answered, and so is the one after it.
+#[test]
+fn long_line(rt: HostRuntime) {
+    let alloc = rt.alloc();
+    let mut input = vec![in alloc; b'a'; LONG].expect(&rt, "memory");
+    input.extend_from_slice(b"\nb").expect(&rt, "memory");
+    let mut reader = MemoryIn::new(input);
+    let mut writer = MemoryOut::new(alloc);
+    let all = run_lines(alloc, &mut Echo { odd: false }, &mut reader, &mut writer);
+    assert!(rt; all == Ok(true));
+    let bytes = writer.bytes();
+    assert!(rt; bytes.len() == LONG + 5 && bytes.ends_with(b"a\n1b\n"));
+}
+
 /// Each answer is passed on to the writer of std by one write and one flush.
 #[test]
 fn flushes_are_passed_on(rt: HostRuntime) {
