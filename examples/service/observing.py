@@ -89,10 +89,12 @@ class Metrics:
 
     def compact(self) -> None:
         """Stores a snapshot, or takes the one that the writer has stored, and forgets the epochs before it."""
+        before = self.first
         try:
             self._holder.directory.compact()
             self.find_first()
-            LOG.info("compact")
+            oldest = epoch_of(self._holder.directory.chain()[self.first])
+            LOG.info("compact", extra={"members": {"forgotten": self.first - before, "oldest": oldest}})
         except ProviderError as error:
             LOG.error("compact failed", extra=error_of(error))
 

@@ -7,6 +7,7 @@ import asyncio
 import os
 import random
 import signal
+import subprocess
 import sys
 import threading
 import time
@@ -28,7 +29,7 @@ from coniks.provider import Change, LogRefused, Operation, Overtaken, Register
 from collecting import Asked, Collector, committed
 from holders import collector_of, judged, made
 from problems import Problem
-from services import PYTHON, Running, named, until
+from services import HOME, PYTHON, Running, named, until
 
 
 class Askers:
@@ -348,6 +349,27 @@ def test_killed_child(program: str, tmp_path: Path, caplog: pytest.LogCaptureFix
         killed = asyncio.run(story())
         lines = [vars(it)["members"] for it in caplog.records if it.getMessage() == "children"]
         assert lines[0]["pids"] == [killed] and lines[-1]["pids"] == [holder.provider.pid] != [killed]
+
+
+@pytest.mark.parametrize(
+    "options", [["--period", "60", "--kept", "7776000"], ["--period", "1", "--kept", "49153"], ["--period", "0"]]
+)
+def test_made_to_stop(program: str, tmp_path: Path, options: list[str]) -> None:
+    """A directory that would stop for want of room is not made."""
+    place = ["--log", str(tmp_path / "log"), "--guard", str(tmp_path / "guard"), "--program", program]
+    words = [
+        PYTHON,
+        str(HOME / "serve"),
+        "make",
+        "--keys",
+        str(tmp_path / "keys"),
+        "--origin",
+        "keys.example.com",
+        *place,
+        *options,
+    ]
+    ran = subprocess.run(words, capture_output=True, text=True)
+    assert ran.returncode == 1 and "room" in ran.stderr and "--period" in ran.stderr and not any(tmp_path.iterdir())
 
 
 def test_long_stop(program: str, tmp_path: Path, monkeypatch: pytest.MonkeyPatch) -> None:

@@ -190,7 +190,8 @@ def test_compact(other: Running) -> None:
     for key in [b"1", b"2", b"3"]:
         other.operate("change" if key != b"1" else "register", "alice", key)
     other.process.send_signal(signal.SIGUSR2)
-    until(lambda: [it for it in other.lines() if it["event"] == "compact"])
+    [compacted] = until(lambda: [it for it in other.lines() if it["event"] == "compact"])
+    assert compacted["forgotten"] == 0 and compacted["oldest"] == other.first()
     chain, first = other.get("/v1/entries").body, other.first()
     assert chain[:209] == other.entry(first) and len(chain) >= 4 * 209
     assert other.get(f"{named('alice')}&epoch={first}").status == 200, "the policy promises it"
