@@ -3,14 +3,20 @@
 from __future__ import annotations
 
 import hashlib
-import hmac
+import logging
+import re
+import threading
 from dataclasses import dataclass
 from pathlib import Path
-from typing import Callable, Mapping, Optional
+from typing import Callable, Collection, Mapping, Optional
 
 from coniks import Policy
 from coniks.provider import Operation
 from coniks.vouching import Place, is_allowed
+
+LOG = logging.getLogger("service")
+# The most characters of a token.
+_LONGEST_TOKEN = 1024
 
 
 @dataclass(frozen=True)
@@ -60,16 +66,54 @@ def check_promise(policy: Policy, authorise: Authorise) -> None:
 
 class Tokens:
     """Lets each bearer token (RFC 6750) do what is asked of one name, or of all names. The file has a line for each token: the
-    SHA-256 of the token in hexadecimal digits, a space, and the name, or `*`. So it has no token. Without a file nobody writes."""
+    SHA-256 of the token in hexadecimal digits, a space, and the name, or `*`. So it has no token. Without a file nobody writes.
+
+    The file is read when it changes. What is then no such file is logged, and the tokens stay as they were. One that is removed leaves
+    no token. Raises ValueError and OSError for a file that is none at the start.
+    """
 
     def __init__(self, path: Optional[Path]):
-        self._path = path
+        self._path, self._reading = path, threading.Lock()
+        self._stamp: Optional[tuple[int, ...]] = None
+        # The names that each token's digest is for.
+        self._names: Mapping[bytes, Collection[str]] = {}
+        if path is not None:
+            self._stamp, self._names = _stamp_of(path), names_in(path.read_text("utf-8"))
 
     def __call__(self, request: Request) -> bool:
         scheme, _, token = request.headers.get("Authorization", "").partition(" ")
-        if scheme.lower() != "bearer" or not token or self._path is None:
+        if scheme.lower() != "bearer" or not 0 < len(token) <= _LONGEST_TOKEN:
             return False
-        digest = hashlib.sha256(token.encode("utf-8", "surrogateescape")).hexdigest()
-        # The file is read anew, so that a change needs no restart. Each line is compared, so that the time tells nothing.
-        lines = [it.partition(" ") for it in self._path.read_text("utf-8").splitlines()]
-        return any([hmac.compare_digest(it.encode(), digest.encode()) and of in ("*", request.name) for it, _, of in lines])
+        names = self._current().get(hashlib.sha256(token.encode("utf-8", "surrogateescape")).digest(), ())
+        return "*" in names or request.name in names
+
+    def _current(self) -> Mapping[bytes, Collection[str]]:
+        """The tokens that the file has now."""
+        with self._reading:
+            if self._path is not None and (stamp := _stamp_of(self._path)) != self._stamp:
+                self._stamp = stamp
+                try:
+                    self._names = names_in(self._path.read_text("utf-8")) if stamp else {}
+                except (OSError, ValueError) as error:
+                    LOG.error("tokens", extra={"members": {"error": f"{type(error).__name__}: {error}"}})
+            return self._names
+
+
+def _stamp_of(path: Path) -> Optional[tuple[int, ...]]:
+    """What tells whether a file has changed, None if there is none."""
+    try:
+        found = path.stat()
+    except FileNotFoundError:
+        return None
+    return found.st_dev, found.st_ino, found.st_size, found.st_mtime_ns
+
+
+def names_in(text: str) -> dict[bytes, set[str]]:
+    """The names that each digest of a file is for. Raises ValueError for a line that is none, whose text it doesn't show."""
+    found = dict[bytes, set[str]]()
+    for number, line in enumerate(text.splitlines(), 1):
+        digest, _, name = line.partition(" ")
+        if not re.fullmatch("[0-9a-f]{64}", digest) or not name:
+            raise ValueError(f"line {number} of the tokens is not a SHA-256 in hexadecimal digits, a space, and a name or *")
+        found.setdefault(bytes.fromhex(digest), set()).add(name)
+    return found

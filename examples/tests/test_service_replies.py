@@ -4,6 +4,7 @@ from __future__ import annotations
 
 import hashlib
 import re
+import time
 from pathlib import Path
 from typing import Any
 from unittest.mock import Mock
@@ -307,3 +308,39 @@ def test_too_many_requests(other: Running) -> None:
     assert sum(b" 429 " in other.send(line % it) for it in range(40)) >= 20, "the proxy's own line is the last one"
     assert other.get("/healthz").status == 200
     until(lambda: other.get("/v1/policy", X_Forwarded_For="192.0.2.1").status == 200)
+
+
+def test_tokens(packages: None, tmp_path: Path, caplog: pytest.LogCaptureFixture) -> None:
+    """The file is read when it changes, and a request with a bad token costs no reading of it."""
+    from authorising import Request, Tokens
+
+    path, one, two = tmp_path / "tokens", "token one", "token two"
+
+    def line(token: str, name: str) -> str:
+        return f"{hashlib.sha256(token.encode()).hexdigest()} {name}\n"
+
+    def may(token: str, name: str = "alice") -> bool:
+        return tokens(Request(name, None, None, {"Authorization": token}))
+
+    path.write_text(
+        "".join(line(f"{it}", "bob") for it in range(100_000)) + line(one, "alice") + line(one, "carol") + line(two, "*")
+    )
+    tokens, start = Tokens(path), time.monotonic()
+    for token in ["Bearer another", "Bearer ", "Basic x", "", f"Bearer {'x' * 100_000}"] * 100:
+        assert not may(token)
+    assert time.monotonic() - start < 5, "as 500 readings of the file would take minutes"
+    assert may(f"Bearer {one}") and may(f"bearer {one}", "carol") and not may(f"Bearer {one}", "bob") and may(f"Bearer {two}", "x")
+    path.write_text(line(two, "alice"))
+    assert not may(f"Bearer {one}") and may(f"Bearer {two}") and not may(f"Bearer {two}", "bob")
+    for text in ["secret token alice\n", line(two, "alice") + "\n", line(two, "").rstrip(" \n") + "\n"]:
+        path.write_text(text)
+        assert may(f"Bearer {two}"), "what is no file of tokens changes nothing"
+        told = str(vars(caplog.records[-1])["members"])
+        assert "of the tokens is not" in told and "secret" not in told
+        with pytest.raises(ValueError, match="of the tokens is not"):
+            Tokens(path)
+    path.unlink()
+    assert not may(f"Bearer {two}"), "without the file nobody writes"
+    with pytest.raises(FileNotFoundError):
+        Tokens(path)
+    assert not Tokens(None)(Request("alice", None, None, {"Authorization": f"Bearer {two}"}))
