@@ -128,4 +128,4 @@ def link_of(entry: bytes) -> bytes:
 
 def error_of(error: Exception, **more: Union[str, int]) -> dict[str, Any]:
     """What the log has of an error."""
-    return {"members": {**more, "error": f"{type(error).__name__}: {error}"}}
+    return {"members": {"error": f"{type(error).__name__}: {error}", **more}}
