@@ -1018,7 +1018,8 @@ print(guard(guard.asked()).hex())
 	if said != fmt.Sprintf("abandoned\nrefused\n%x\n", signature) || err != nil {
 		t.Error(said, err)
 	}
-	it.has(record{signed: append(append([]byte(nil), open...), signature...)})
+	// Python keeps a body that was abandoned in the place of the signed one.
+	it.has(record{signed: append(append([]byte(nil), open...), signature...), abandoned: [][]byte{abandoned}})
 }
 
 // A guard of Python and one of Go over one record, at once: the signatures form one chain. Python goes on until it has

@@ -40,7 +40,7 @@ def messages(program: str, log: Path) -> dict[str, Any]:
             batch: list[Operation] = [Register(f"user {it} of {epoch}", b"key") for it in range(10 * at)]
             if not keys or keys[-1] != key:
                 batch.append(Change("alice", key) if keys else Register("alice", key))
-            own.commit(epoch, batch, force=True)
+            own.commit(epoch, batch, force=True, far=True)
             keys.append(key)
         whole = {"catchup": own.catch_up(0), "reply": own.reply("alice", vrf_proof("alice"))}
         whole["absent"] = own.reply("nobody", vrf_proof("nobody"))

@@ -364,7 +364,7 @@ def test_audit(room: Path, prefix: Path) -> None:
 
 
 @pytest.mark.parametrize(
-    "word, wanted", [("re", "register"), ("", "begin register lookup verify watch compare evidence set --help --version")]
+    "word, wanted", [("re", "register"), ("", "begin register lookup verify watch compare evidence trust set --help --version")]
 )
 def test_completion(word: str, wanted: str) -> None:
     """Bash completes the commands."""
