@@ -87,10 +87,6 @@ func lookUpTurn(provider *Provider) error {
 // compactTurn takes a snapshot, and drops lines below it.
 func compactTurn(provider *Provider, log *FileLog) error {
 	position, err := provider.Compact(background)
-	// If the first child is killed while both are compared, nothing is stored, and the other one is not trusted.
-	if errors.Is(err, ErrSnapshotDiffers) {
-		return nil
-	}
 	if err == nil && rand.Intn(2) == 0 {
 		err = log.DropBefore(position - rand.Intn(3))
 	}
