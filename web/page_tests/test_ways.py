@@ -28,9 +28,8 @@ Say = Callable[[str], None]
 # holds it; beside other processes a browser waits for its turn.
 STOP, TRIES = int(os.environ.get("STOP", "250")), 4
 
-# Seconds in which the page shows its example, milliseconds of a lookup with all its steps, and bytes of the page. On idle cores the
-# example takes less than a second.
-OPENS, SLOWEST, LARGEST = 2, 50, 150_000
+# Seconds in which the page shows its example, milliseconds of a lookup with all its steps, and bytes of the page.
+OPENS, SLOWEST, LARGEST = 1, 50, 150_000
 
 TICKING = """window.longest = 0; window.last = 0; (function tick() { const now = performance.now();
     window.longest = Math.max(window.longest, now - window.last); window.last = now; window.ticking = setTimeout(tick); })(); 1"""
@@ -276,7 +275,7 @@ def test_opening(browser: Browser, say: Say) -> None:
     """The page shows its example soon. A browser that has just started takes longer."""
     took = [opened(browser) for _ in range(3)]
     say(f"the page shows its example in {min(took):.1f} s")
-    assert min(took) < OPENS, (f"the first verdict comes within {OPENS} seconds", took)
+    assert min(took) < OPENS, (f"the first verdict comes within {OPENS} s", took)
 
 
 def test_speed(browser: Browser, say: Say) -> None:

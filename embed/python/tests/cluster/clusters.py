@@ -20,7 +20,7 @@ from coniks.replica import Replica
 
 Call = Callable[[], object]
 # Seconds that a call waits for PostgreSQL, and in which each call must end while PostgreSQL answers nothing.
-PATIENCE, ENDS = 2, 9
+PATIENCE, ENDS = 1, 6
 
 
 class Cluster(ExitStack):
