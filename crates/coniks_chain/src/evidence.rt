@@ -32,7 +32,7 @@ pub struct Evidence {
 }
 
 /// Returns whether a good chain can contain a body, whatever entry is before it.
-fn is_well_formed(body: &Body) -> bool
+pub fn is_well_formed(body: &Body) -> bool
     ensures { result ≡ true ↔ IsWellFormed body.now }
 {
     let has_version = body.version == 1 || body.version == 2;

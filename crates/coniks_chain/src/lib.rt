@@ -42,7 +42,7 @@ pub mod signer;
 
 pub use auditor::{AuditFault, Auditor, AuditorState, audit};
 pub use entry::{BODY_BYTES, Body, ENTRY_BYTES, Entry, Signature, link};
-pub use evidence::{Evidence, EvidenceKind, convicts, find_evidence};
+pub use evidence::{Evidence, EvidenceKind, convicts, find_evidence, is_well_formed};
 pub use history::extract_history;
 pub use monitor::{Monitor, Wanted};
 pub use seen::{MonitorFault, Seen, Tally};

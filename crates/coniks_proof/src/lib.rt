@@ -47,4 +47,4 @@ pub use proof_ref::{EndRef, ProofRef, Siblings};
 pub use values::{
     Digest, Head, Index, MAX_KEY, MAX_LEVEL, MAX_NAME, MAX_OPERATIONS, Nonce, Opening,
 };
-pub use wire::{BytesFault, WireFault};
+pub use wire::{BytesFault, WireFault, read_end};

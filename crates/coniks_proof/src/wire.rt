@@ -1,10 +1,11 @@
 //! The wire form of proofs: each proof has exactly one byte string.
 
-ghost use Rattle.std.specs.Prelude.{◌≡◌, ◌+◌, ◌++◌, ◌<◌, ◌^◌, IfErr, IfNone, IfOk, IfSome, IsOkAnd, MatchOption, OnOk, length};
+ghost use Rattle.std.specs.Prelude.{◌≡◌, ◌≢◌, ◌+◌, ◌++◌, ◌<◌, ◌^◌, IfErr, IfNone, IfOk, IfSome, IsOkAnd, MatchOption, OnOk, length};
 ghost use Rattle.std.specs.Int.{to_be_bytes, w16, w32};
 ghost use Rattle.coniks_proof.specs.ProofRefs.{listed, owned};
 ghost use Rattle.coniks_proof.specs.Wire.{AreSized, EndHas, FrontHas, HasRoom, IsEndOf, IsFirstFault, IsFront, IsWire, IsWritableEnd, Refuses, WireHas, after_key, after_name, end_bytes, key_length, kind_of, long_length, name_length, short_length, sibling_bytes};
 ghost use Rattle.coniks_proof.specs.declared.wire.BytesFault.TheVariants.{OutOfMemory};
+ghost use Rattle.coniks_proof.specs.declared.wire.WireFault.TheVariants.{BytesFollow};
 ghost use Rattle.coniks_proof.specs.declared.paths.Proof.{Proof as Whole};
 
 use crate::paths::{End, Proof};
@@ -109,6 +110,7 @@ fn split_key(bytes: &[u8]) -> Option<(&[u8], &[u8])>
 fn read_other(bytes: &[u8]) -> Result<(EndRef<'_>, &[u8]), WireFault>
     ensures found { IfOk result (λ end. IsEndOf bytes.now 1 (owned end.0) end.1.now) }
     ensures refused { IfErr result (λ fault. IsFirstFault (EndHas 1 bytes.now) fault) }
+    ensures cut { IfErr result (λ fault. fault ≢ BytesFollow) }
 {
     let (index, rest) = bytes
         .split_first_chunk::<32>()
@@ -123,6 +125,7 @@ fn read_other(bytes: &[u8]) -> Result<(EndRef<'_>, &[u8]), WireFault>
 fn read_here(bytes: &[u8]) -> Result<(EndRef<'_>, &[u8]), WireFault>
     ensures found { IfOk result (λ end. IsEndOf bytes.now 2 (owned end.0) end.1.now) }
     ensures refused { IfErr result (λ fault. IsFirstFault (EndHas 2 bytes.now) fault) }
+    ensures cut { IfErr result (λ fault. fault ≢ BytesFollow) }
 {
     let (opening, rest) = bytes
         .split_first_chunk::<32>()
@@ -133,11 +136,24 @@ fn read_here(bytes: &[u8]) -> Result<(EndRef<'_>, &[u8]), WireFault>
     Ok((EndRef::Here { name, key, opening }, rest))
 }
 
-/// Returns the end of this kind that bytes begin with, and the bytes after it.
-fn read_end(kind: u8, bytes: &[u8]) -> Result<(EndRef<'_>, &[u8]), WireFault>
+/// Returns the end of this kind that bytes begin with, and the bytes after it: kind 0 is an empty node, 1 the leaf of another
+/// index, 2 the leaf of the asked one. The name and the key are borrowed from the bytes.
+///
+/// # Errors
+///
+/// If several apply, the first in this order is returned.
+///
+/// - `CutInOther` if the bytes end within the other index or its commitment.
+/// - `CutInOpening` if the bytes end within the opening.
+/// - `CutInName` if the bytes end within the name or its length.
+/// - `CutInKey` if the bytes end within the key or its length.
+pub fn read_end(kind: u8, bytes: &[u8]) -> Result<(EndRef<'_>, &[u8]), WireFault>
     requires { kind < 3 }
     ensures found { IfOk result (λ end. IsEndOf bytes.now kind (owned end.0) end.1.now) }
     ensures refused { IfErr result (λ fault. IsFirstFault (EndHas kind bytes.now) fault) }
+
+    // Bytes may follow the end.
+    ensures cut { IfErr result (λ fault. fault ≢ BytesFollow) }
 {
     match kind {
         EMPTY_KIND => Ok((EndRef::Empty, bytes)),
