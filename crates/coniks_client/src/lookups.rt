@@ -1,0 +1,343 @@
+//! A client's lookup.
+
+ghost use Rattle.std.specs.Prelude.{◌≡◌, ◌≢◌, ◌<◌, ◌+◌, ◌↔◌, ℕ, Any, IfErr, IfNone, IfOk, IfSome, IsTrue, OnOk, Option, Some, None, length, slice_get};
+ghost use Rattle.std.specs.Option.{option_map};
+ghost use Rattle.coniks_proof.specs.Octets.{Octets};
+ghost use Rattle.coniks_proof.specs.Proofs.{said};
+ghost use Rattle.coniks_client.specs.Kept.{entry_in, epoch_in};
+ghost use Rattle.coniks_chain.specs.Entries.{entry_from};
+ghost use Rattle.coniks_client.specs.Lookups.{Answers, AnswersNone, IsAsked, IsElsewhere, IsFound, IsKept, IsNotFound, IsThere, IsUnknown, IsUnvetted, IsUnvettedReply, IsVetted, IsVettedReply, Shows, ShowsNone};
+ghost use Rattle.coniks_client.specs.Replies.{entry_part, proof_part, vrf_part};
+
+use crate::feeding::{EntryFault, evidence_of, verified};
+use crate::kept::Kept;
+use crate::replies::{Reply, ReplyFault};
+use crate::times::{AgeFault, Present, lateness};
+use coniks_chain::{ENTRY_BYTES, Entry, Evidence, Verify};
+use coniks_proof::{Answer, CheckFault, Hash32, Index, ProofRef, WireFault, check_ref};
+use thiserror::Error;
+
+/// Verifies where names are stored: a VRF (RFC 9381), or another index scheme of the directory.
+pub trait IndexScheme {
+    ghost use Rattle.coniks_proof.specs.declared.values.Index.{Index};
+
+    /// The index that a proof of a name verifies to, if it does.
+    ghost index_of: { Self → Octets → Octets → Option Octets };
+
+    /// Returns the index of a name, if the proof is one of this name.
+    fn index(&self, name: &[u8], proof: &[u8]) -> Option<Index>
+        ensures { option_map (λ index. index.0) result ≡ index_of self.now name.now proof.now };
+}
+
+/// The error of a reply that is refused. If several apply, the first in declaration order is returned.
+#[derive(Clone, Copy, Debug, Drop, PartialEq, Eq, Error)]
+pub enum LookupFault {
+    #[error("the bytes are no reply: {0}")]
+    NoReply(ReplyFault),
+    #[error("the reply's entry is none of this directory: {0}")]
+    OfEntry(EntryFault),
+    #[error("the reply's entry and a kept one are evidence against the directory")]
+    Equivocation(Evidence),
+    #[error("the chain has no entry at the asked epoch")]
+    UnknownEpoch,
+    #[error("the reply's body isn't that of the chain's entry at the asked epoch")]
+    OtherEpoch,
+    /// None was asked by its number.
+    #[error("the latest epoch isn't that of the present: {0}")]
+    OffTime(AgeFault),
+    #[error("the VRF proof isn't one of this name")]
+    VrfProof,
+    #[error("the bytes after the VRF proof are no proof's: {0}")]
+    Wire(WireFault),
+    #[error("the proof is refused: {0}")]
+    Check(CheckFault),
+}
+
+/// What an accepted reply shows: the place of its epoch among the kept ones, and the answer, whose key is a part of the reply.
+#[derive(Clone, Copy)]
+pub struct Found<'a> {
+    pub place: usize,
+    pub answer: Answer<'a>,
+}
+
+/// Who verifies: the caller's hash, signature scheme and index scheme, for a policy and at a time.
+#[derive(Drop)]
+pub struct Verifier<'a, H, V, S> {
+    pub hash: &'a H,
+    pub signatures: &'a V,
+    pub indices: &'a S,
+    /// The policy digest of the directory.
+    pub policy: &'a [u8; 32],
+    pub present: Present,
+}
+
+/// A name that is looked up, the asked epoch, the latest one if it is `None`, and the bytes of the reply.
+#[derive(Clone, Copy)]
+pub struct Asking<'a> {
+    pub name: &'a [u8],
+    pub epoch: Option<u64>,
+    pub reply: &'a [u8],
+}
+
+/// A kept epoch, and its place.
+#[derive(Clone, Copy)]
+pub struct Place {
+    pub place: usize,
+    pub mine: Kept,
+}
+
+/// Returns the kept epoch at a place.
+pub fn kept_at(kept: &[Kept], place: usize) -> Place
+    requires { place < length kept.now }
+    ensures place { result.place ≡ place }
+    ensures there { slice_get kept.now place ≡ Some result.mine }
+{
+    let mine = kept[place];
+    Place { place, mine }
+}
+
+/// Returns the kept epoch of a number where a chain has it: the epochs of a chain rise.
+fn kept_near(kept: &[Kept], epoch: u64) -> Option<Place>
+    ensures { IfSome result (λ found. (slice_get kept.now found.place ≡ Some found.mine) × (epoch_in found.mine ≡ epoch)) }
+{
+    let place = kept.partition_point(|mine| mine.epoch() < epoch);
+    if place == kept.len() {
+        return None;
+    }
+    let found = kept_at(kept, place);
+    if found.mine.epoch() == epoch {
+        Some(found)
+    } else {
+        None
+    }
+}
+
+/// Returns the first kept epoch of a number.
+fn first_kept(kept: &[Kept], epoch: u64) -> Option<Place>
+    ensures some { IfSome result (λ found. (slice_get kept.now found.place ≡ Some found.mine) × (epoch_in found.mine ≡ epoch)) }
+    ensures none { IfNone result ((k : ℕ) (mine : Kept) → slice_get kept.now k ≡ Some mine → epoch_in mine ≢ epoch) }
+{
+    for (place, mine) in kept.iter().enumerate() {
+        if mine.epoch() == epoch {
+            return Some(Place { place, mine: *mine });
+        }
+    }
+    None
+}
+
+/// Returns the kept epoch of a number.
+///
+/// It is searched by halves. Only a number that no kept epoch has is looked for in all of them, in any order.
+pub fn kept_of(kept: &[Kept], epoch: u64) -> Option<Place>
+    ensures some { IfSome result (λ found. (slice_get kept.now found.place ≡ Some found.mine) × (epoch_in found.mine ≡ epoch)) }
+    ensures none { IfNone result ((k : ℕ) (mine : Kept) → slice_get kept.now k ≡ Some mine → epoch_in mine ≢ epoch) }
+{
+    match kept_near(kept, epoch) {
+        Some(found) => Some(found),
+        None => first_kept(kept, epoch),
+    }
+}
+
+/// Returns whether a kept entry has these bytes.
+fn has_bytes(mine: &Kept, bytes: &[u8; ENTRY_BYTES]) -> bool
+    ensures { IsTrue result ↔ (mine.now.entry ≡ bytes.now) }
+{
+    mine.entry == *bytes
+}
+
+/// Returns whether these bytes are kept where a chain has their epoch.
+fn is_near(kept: &[Kept], bytes: &[u8; ENTRY_BYTES]) -> bool
+    ensures { IsTrue result → IsKept kept.now bytes.now }
+{
+    match kept_near(kept, Entry::read(bytes).body.t) {
+        Some(found) => has_bytes(&found.mine, bytes),
+        None => false,
+    }
+}
+
+/// Returns whether these bytes are kept: then their signature was verified before.
+pub fn is_kept(kept: &[Kept], bytes: &[u8; ENTRY_BYTES]) -> bool
+    ensures { IsTrue result ↔ (IsKept kept.now bytes.now) }
+{
+    is_near(kept, bytes) || kept.iter().any(|mine| has_bytes(mine, bytes))
+}
+
+/// Returns why the entry of a reply is neither kept nor one of this directory that convicts with none.
+fn unvetted<V: Verify>(
+    policy: &[u8; 32],
+    kept: &[Kept],
+    bytes: &[u8; ENTRY_BYTES],
+    verify: &V,
+) -> Option<LookupFault>
+    ensures none { IfNone result (IsVetted (V.verdict_of verify.now) policy.now kept.now bytes.now) }
+    ensures some { IfSome result (λ fault. IsUnvetted (V.verdict_of verify.now) policy.now kept.now bytes.now fault) }
+{
+    if is_kept(kept, bytes) {
+        return None;
+    }
+    let entry = match verified(policy, kept, bytes, verify) {
+        Ok(entry) => entry,
+        Err(fault) => return Some(LookupFault::OfEntry(fault)),
+    };
+    match evidence_of(kept, &entry) {
+        Some(evidence) => Some(LookupFault::Equivocation(evidence)),
+        None => None,
+    }
+}
+
+/// Returns the latest kept epoch.
+fn latest_kept(kept: &[Kept]) -> Option<Place>
+    ensures some { IfSome result (λ found. (slice_get kept.now found.place ≡ Some found.mine) × (found.place + 1 ≡ length kept.now)) }
+    ensures none { IfNone result (length kept.now ≡ 0) }
+{
+    if kept.is_empty() {
+        return None;
+    }
+    Some(kept_at(kept, kept.len() - 1))
+}
+
+/// Returns the asked epoch, or the latest one if none is asked.
+fn asked(kept: &[Kept], epoch: Option<u64>) -> Option<Place>
+    ensures there { IfSome result (λ found. slice_get kept.now found.place ≡ Some found.mine) }
+    ensures some { IfSome result (λ found. IsAsked kept.now epoch found.place) }
+    ensures none { IfNone result (IsUnknown kept.now epoch) }
+{
+    match epoch {
+        Some(epoch) => kept_of(kept, epoch),
+        None => latest_kept(kept),
+    }
+}
+
+/// Returns whether the body of an entry's bytes is that of a kept entry.
+fn same_body(bytes: &[u8; ENTRY_BYTES], mine: &Kept) -> bool
+    ensures { IsTrue result ↔ ((entry_from bytes.now).body ≡ (entry_in mine.now).body) }
+{
+    Entry::read(bytes).body == mine.entry().body
+}
+
+/// Returns the asked epoch, if its entry has the body of these bytes.
+fn asked_body(
+    present: &Present,
+    kept: &[Kept],
+    epoch: Option<u64>,
+    bytes: &[u8; ENTRY_BYTES],
+) -> Result<Place, LookupFault>
+    ensures ok { IfOk result (λ found. IsThere present.now kept.now epoch (entry_from bytes.now).body found.place found.mine) }
+    ensures err { IfErr result (λ fault. IsElsewhere present.now kept.now epoch (entry_from bytes.now).body fault) }
+{
+    let Some(found) = asked(kept, epoch) else {
+        return Err(LookupFault::UnknownEpoch);
+    };
+    if !same_body(bytes, &found.mine) {
+        return Err(LookupFault::OtherEpoch);
+    }
+    if let Some(fault) = lateness(present, epoch, found.mine.entry().body.t) {
+        return Err(LookupFault::OffTime(fault));
+    }
+    Ok(found)
+}
+
+/// Returns the parts of a reply whose entry is kept, or one of this directory.
+fn vetted_reply<'a, V: Verify>(
+    policy: &[u8; 32],
+    kept: &[Kept],
+    bytes: &'a [u8],
+    verify: &V,
+) -> Result<Reply<'a>, LookupFault>
+    ensures entry { IfOk result (λ reply. reply.entry.now ≡ entry_part bytes.now) }
+    ensures vrf { IfOk result (λ reply. reply.vrf.now ≡ vrf_part bytes.now) }
+    ensures proof { IfOk result (λ reply. reply.proof.now ≡ proof_part bytes.now) }
+    ensures ok { OnOk result (IsVettedReply (V.verdict_of verify.now) policy.now kept.now bytes.now) }
+    ensures err { IfErr result (λ fault. IsUnvettedReply (V.verdict_of verify.now) policy.now kept.now bytes.now fault) }
+{
+    let reply = match Reply::read(bytes) {
+        Ok(reply) => reply,
+        Err(fault) => return Err(LookupFault::NoReply(fault)),
+    };
+    match unvetted(policy, kept, reply.entry, verify) {
+        Some(fault) => Err(fault),
+        None => Ok(reply),
+    }
+}
+
+/// Returns what the bytes of a proof show of a name under an entry.
+fn shown<'a, H: Hash32>(
+    h: &H,
+    entry: &Entry,
+    index: &Index,
+    name: &[u8],
+    bytes: &'a [u8],
+) -> Result<Answer<'a>, LookupFault>
+    ensures ok { IfOk result (λ answer. Shows (H.digest_of h.now) entry.now index.now.0 name.now bytes.now (said answer)) }
+    ensures err { IfErr result (λ fault. ShowsNone (H.digest_of h.now) entry.now index.now.0 name.now bytes.now fault) }
+{
+    let proof = match ProofRef::read(bytes) {
+        Ok(proof) => proof,
+        Err(fault) => return Err(LookupFault::Wire(fault)),
+    };
+    let body = &entry.body;
+    match check_ref(h, &body.nonce, &body.root, index, name, &proof) {
+        Ok(answer) => Ok(answer),
+        Err(fault) => Err(LookupFault::Check(fault)),
+    }
+}
+
+/// Returns what a VRF proof and the bytes of a proof show of a name under a kept entry.
+fn answer_of<'a, H: Hash32, S: IndexScheme>(
+    h: &H,
+    scheme: &S,
+    mine: &Kept,
+    name: &[u8],
+    vrf: &[u8],
+    bytes: &'a [u8],
+) -> Result<Answer<'a>, LookupFault>
+    ensures ok { IfOk result (λ answer. Answers (H.digest_of h.now) (S.index_of scheme.now) (entry_in mine.now) name.now vrf.now bytes.now (said answer)) }
+    ensures err { IfErr result (λ fault. AnswersNone (H.digest_of h.now) (S.index_of scheme.now) (entry_in mine.now) name.now vrf.now bytes.now fault) }
+{
+    let Some(index) = scheme.index(name, vrf) else {
+        return Err(LookupFault::VrfProof);
+    };
+    shown(h, &mine.entry(), &index, name, bytes)
+}
+
+/// Returns what a reply shows of a name, at the asked epoch, or at the latest one if none is asked.
+///
+/// Nothing is changed. [`look_up`](crate::steps::look_up) also marks what a watched name shows.
+///
+/// # Errors
+///
+/// If several apply, the first in the order of [`LookupFault`] is returned.
+pub fn lookup<'a, H: Hash32, V: Verify, S: IndexScheme>(
+    by: &Verifier<'_, H, V, S>,
+    kept: &[Kept],
+    asking: &Asking<'a>,
+) -> Result<Found<'a>, LookupFault>
+    ensures ok { IfOk result (λ found. IsFound by.now.present (H.digest_of by.now.hash.now) (V.verdict_of by.now.signatures.now) (S.index_of by.now.indices.now)
+        by.now.policy.now kept.now asking.now.name.now asking.now.reply.now asking.now.epoch found.place (said found.answer)) }
+    ensures within { IfOk result (λ found. found.place < length kept.now) }
+    ensures err { IfErr result (λ fault. IsNotFound by.now.present (H.digest_of by.now.hash.now) (V.verdict_of by.now.signatures.now) (S.index_of by.now.indices.now)
+        by.now.policy.now kept.now asking.now.name.now asking.now.reply.now asking.now.epoch fault) }
+{
+    let reply = match vetted_reply(by.policy, kept, asking.reply, by.signatures) {
+        Ok(reply) => reply,
+        Err(fault) => return Err(fault),
+    };
+    let found = match asked_body(&by.present, kept, asking.epoch, reply.entry) {
+        Ok(found) => found,
+        Err(fault) => return Err(fault),
+    };
+    match answer_of(
+        by.hash,
+        by.indices,
+        &found.mine,
+        asking.name,
+        reply.vrf,
+        reply.proof,
+    ) {
+        Ok(answer) => Ok(Found {
+            place: found.place,
+            answer,
+        }),
+        Err(fault) => Err(fault),
+    }
+}
