@@ -1,0 +1,13 @@
+mod AgainLemmas
+mod AlarmLemmas
+mod ClientLemmas
+mod ConfirmLemmas
+mod CountLemmas
+mod CoverLemmas
+mod HeadsLemmas
+mod ListLemmas
+mod QuorumLemmas
+mod ReportingLemmas
+mod SeenLemmas
+mod TightLemmas
+mod VouchingLemmas

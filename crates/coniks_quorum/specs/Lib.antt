@@ -1,0 +1,11 @@
+pub mod Alarms
+pub mod Auditors
+pub mod Clients
+pub mod Covering
+pub mod Laws
+pub mod Lost
+pub mod Marks
+pub mod Relying
+pub mod Reporting
+pub mod Sights
+pub mod Vouching
