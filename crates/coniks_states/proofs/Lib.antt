@@ -1,0 +1,13 @@
+mod CodeLemmas
+mod ByteLemmas
+mod FrontLemmas
+mod LoopLemmas
+mod ChangeLemmas
+mod NameLemmas
+mod ReadingLemmas
+mod SameLemmas
+mod StateLemmas
+mod WalkLemmas
+mod PutLemmas
+mod LawLemmas
+mod RestoreLemmas
