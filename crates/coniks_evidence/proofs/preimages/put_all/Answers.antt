@@ -1,0 +1,36 @@
+use Rattle.std.proofs.Common.{◌≡◌, ◌+◌, ◌<◌, ℕ, List, [], ◌∷◌, ◌++◌, length, flat_map, take, drop, get_or, refl, sym, ap, ◌∙◌, arith, length-append}
+use Rattle.std.specs.Borrow.{Bor}
+use Rattle.std.proofs.lemmas.List.{append-nil, drop-drop, take_more}
+use Rattle.std.proofs.lemmas.List.Folds.{length-flat_map-take}
+use Rattle.std.proofs.lemmas.Grind.{flat_map-append}
+use Rattle.coniks_evidence.proofs.preimages.put_all.Goals as goal
+
+abbrev joined_to : List (Bor (List ℕ)) → List ℕ
+joined_to pieces = flat_map (λ piece. piece.now) pieces
+
+-- a piece more
+joined_more : (pieces : List (Bor (List ℕ))) (i : ℕ) (d : Bor (List ℕ)) → i < length pieces
+    → joined_to (take (i + 1) pieces) ≡ joined_to (take i pieces) ++ (get_or pieces i d).now
+joined_more pieces i d within =
+    ap joined_to (take_more pieces i d within) ∙ flat_map-append (λ piece. piece.now) (take i pieces) (get_or pieces i d ∷ [])
+    ∙ ap (λ z. joined_to (take i pieces) ++ z) (append-nil (get_or pieces i d).now)
+
+-- what is after a part that was written is as it was
+rest_same : (at next n : ℕ) (old before after : List ℕ) → next ≡ at + n → drop next after ≡ drop next before → drop at before ≡ drop at old → drop next after ≡ drop next old
+rest_same at next n old before after is written was =
+    written ∙ ap (λ m. drop m before) is ∙ sym (drop-drop n at before) ∙ ap (drop n) was ∙ drop-drop n at old ∙ ap (λ m. drop m old) (sym is)
+
+pub put-at-requires : goal.put-at-requires
+put-at-requires c =
+    let more = length-flat_map-take (λ (piece : Bor (List ℕ)). piece.now) c.args.pieces.now c.loop-piece.piece-index (record { ref_ptr = (0, 0); now = [] }) c.loop-piece-test.true in
+    omega (arith, more, c.loop-piece.invariant.place, c.loop-piece.invariant.size, c.requires)
+
+pub loop-piece-preserved : goal.loop-piece-preserved
+loop-piece-preserved c =
+    let more = joined_more c.args.pieces.now c.loop-piece.piece-index (record { ref_ptr = (0, 0); now = [] }) c.loop-piece-test.true in
+    record {
+      place = omega (arith, ap length more, length-append {A = ℕ}, c.put-at.ensures.next, c.loop-piece.invariant.place);
+      size = c.put-at.ensures.size ∙ c.loop-piece.invariant.size;
+      put = c.put-at.ensures.put ∙ ap (λ z. z ++ (get_or c.args.pieces.now c.loop-piece.piece-index (record { ref_ptr = (0, 0); now = [] })).now) c.loop-piece.invariant.put ∙ sym more;
+      rest = rest_same c.loop-piece.at c.put-at.result _ c.args.bytes.now c.loop-piece.bytes c.put-at.new.bytes c.put-at.ensures.next c.put-at.ensures.rest c.loop-piece.invariant.rest;
+    }

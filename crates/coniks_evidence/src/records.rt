@@ -1,0 +1,56 @@
+//! What the owner of a name and somebody who looked it up have kept.
+
+ghost use Rattle.std.specs.Prelude.{◌≡◌, ◌<◌, ◌↔◌, ℕ, suc, IfNone, IfSome, IsTrue, length, slice_get, take};
+ghost use Rattle.coniks_client.specs.Comparing.{HasHead};
+ghost use Rattle.coniks_evidence.specs.Records.{HasHeadAt, HasNoHead};
+
+use coniks_chain::link;
+use coniks_client::{Change, Kept, Watch};
+use coniks_proof::{Hash32, Head};
+
+/// What the owner of a name has: the kept epochs, the watched name with its first key and the changes of it, and the saved
+/// reply for the name at one epoch.
+#[derive(Clone, Copy)]
+pub struct OwnerRecord<'a> {
+    pub kept: &'a [Kept],
+    pub watch: Watch<'a>,
+    pub changes: &'a [Change<'a>],
+    pub reply: &'a [u8],
+}
+
+/// What somebody has who looked the name up: the kept epochs, and the saved reply for the name at the same epoch.
+#[derive(Clone, Copy)]
+pub struct ContactRecord<'a> {
+    pub kept: &'a [Kept],
+    pub reply: &'a [u8],
+}
+
+/// Returns whether a kept epoch has a head.
+fn has_head<H: Hash32>(h: &H, mine: &Kept, head: &Head) -> bool
+    ensures { IsTrue result ↔ HasHead (H.digest_of h.now) mine.now head.now }
+{
+    let entry = mine.entry();
+    entry.body.t == head.epoch && link(h, &entry) == head.link
+}
+
+/// Returns the place of a kept epoch that has a head.
+pub(crate) fn place_of<H: Hash32>(h: &H, kept: &[Kept], head: &Head) -> Option<usize>
+    ensures some { IfSome result (λ place. HasHeadAt (H.digest_of h.now) kept.now head.now place) }
+    ensures within { IfSome result (λ place. place < length kept.now) }
+    ensures none { IfNone result (HasNoHead (H.digest_of h.now) kept.now head.now) }
+{
+    for (place, mine) in kept.iter().enumerate() {
+        if has_head(h, mine, head) {
+            return Some(place);
+        }
+    }
+    None
+}
+
+/// Returns the kept epochs up to a place.
+pub(crate) fn up_to<'a>(kept: &'a [Kept], place: usize) -> &'a [Kept]
+    requires { place < length kept.now }
+    ensures { result.now ≡ take (suc place) kept.now }
+{
+    &kept[..place + 1]
+}
