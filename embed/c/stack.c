@@ -1,13 +1,10 @@
 /* Prints how many bytes of stack a check takes, at 0, 128 and 256 siblings: how much of a painted stack was written. */
 #define _XOPEN_SOURCE 700
-#include <pthread.h>
 #include <stdio.h>
 #include <stdlib.h>
-#include <string.h>
 
 #include "coniks.h"
-
-enum { ROOM = 1 << 20, PAINT = 0xa5 };
+#include "painted.h"
 
 static uint8_t proof[3 + 256 * 32];
 static size_t proof_length;
@@ -24,22 +21,11 @@ static void *call(void *is_checked)
 
 static size_t taken(void *is_checked)
 {
-    pthread_attr_t attributes;
-    pthread_t thread;
     void *result = NULL;
-    size_t unused = 0;
-    uint8_t *stack = aligned_alloc(4096, ROOM);
-    if (stack == NULL)
+    size_t bytes = painted(call, is_checked, &result);
+    if (result)
         exit(2);
-    memset(stack, PAINT, ROOM);
-    pthread_attr_init(&attributes);
-    if (pthread_attr_setstack(&attributes, stack, ROOM) || pthread_create(&thread, &attributes, call, is_checked) ||
-        pthread_join(thread, &result) || result)
-        exit(2);
-    while (unused < ROOM && stack[unused] == PAINT)
-        unused++;
-    free(stack);
-    return ROOM - unused;
+    return bytes;
 }
 
 int main(void)

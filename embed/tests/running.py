@@ -33,7 +33,7 @@ def run(*words: Union[str, Path], **more: Any) -> subprocess.CompletedProcess[by
 def libraries(source: Path) -> list[str]:
     """The libraries that a C program is linked with."""
     text = source.read_text("utf-8")
-    return (["-lcrypto"] if "openssl/" in text else []) + (["-lpthread"] if "pthread.h" in text else [])
+    return (["-lcrypto"] if "openssl/" in text else []) + (["-lpthread"] if "pthread.h" in text or "painted.h" in text else [])
 
 
 def compiled(room: Path, source: Path, *more: str) -> Path:

@@ -22,9 +22,12 @@ from running import ARCHIVE, EMBED, INCLUDE, SHARED, TOP, WARNED, Say, compiled,
 pytestmark = pytest.mark.usefixtures("embedded")
 
 HEADER = (INCLUDE / "coniks.h").read_text("utf-8")
+CORE = (INCLUDE / "coniks_core.h").read_text("utf-8")
 CC = tools.CC
 MAY_ASK = {"memcpy", "memmove", "memset"}
 STACK = 8192
+# The scripts by which `embed/build` builds the library.
+BUILDING = ["built", "crates", "need-rt", "processor", "unproved-kit", "unproved-library"]
 SEED = 20261125
 # The empty tree's root is the hash of an empty node: 45, the nonce, the prefix in 32 bytes and its length in 2.
 SAMPLE = {
@@ -37,8 +40,21 @@ SAMPLE = {
 }
 
 
-def declared() -> set[str]:
-    return set(re.findall(r"^[a-z0-9_]+ (coniks_[a-z_0-9]+)\(", HEADER, re.M))
+def declared(header: str = HEADER + CORE) -> set[str]:
+    return set(re.findall(r"^[a-z0-9_]+ (coniks_[a-z_0-9]+)\(", header, re.M))
+
+
+@pytest.mark.parametrize("unproved, name", [("", "build"), ("1", "unproved-library")], ids=["proved", "unproved"])
+def test_build_without_rt(tmp_path: Path, unproved: str, name: str) -> None:
+    """Without `rt` the library isn't built, and the error says in one line what is missing."""
+    for it in ("embed/build", "include/coniks.h", "include/coniks_core.h", "crates.txt", *(f"scripts/{it}" for it in BUILDING)):
+        (tmp_path / it).parent.mkdir(exist_ok=True)
+        shutil.copy(TOP / it, tmp_path / it)
+    kept = [it for it in os.environ["PATH"].split(os.pathsep) if not (Path(it) / "rt").exists()]
+    ran = run(tmp_path / "embed/build", env=os.environ | {"PATH": os.pathsep.join(kept), "CONIKS_UNPROVED": unproved})
+    said = ran.stderr.decode()
+    assert ran.returncode == 1 and said.startswith(f"{name}: rt isn't on the search path") and said.count("\n") == 1, said
+    assert not list((tmp_path / "embed/out").iterdir()), "nothing is made"
 
 
 def test_names() -> None:
@@ -58,10 +74,17 @@ def test_header(tmp_path: Path, standard: str) -> None:
     language = standard.rstrip("0123456789")
     if language == "c++":
         needs("a C++ compiler")
-    sizes = {"coniks_bytes32": 32, "coniks_bytes145": 145, "coniks_auditor": 80, "coniks_body": 152}
+    sizes = {
+        "coniks_bytes32": 32,
+        "coniks_bytes145": 145,
+        "coniks_auditor": 80,
+        "coniks_body": 152,
+        "coniks_kept": 218,
+        "coniks_found": 32,
+    }
     lines = "".join(f"typedef char is_{name}[sizeof({name}) == {size} ? 1 : -1];\n" for name, size in sizes.items())
     source, words = tmp_path / "header", [CC, *WARNED, f"-std={standard}", "-fsyntax-only", "-x", language]
-    source.write_text(f'#include "coniks.h"\n{lines}')
+    source.write_text(f'#include "coniks_core.h"\n{lines}')
     ran = run(*words, "-pedantic", source)
     assert ran.returncode == 0, ran.stderr.decode()
     source.write_text('#include "coniks.h"\nvoid f(coniks_body *body) { coniks_body_bytes(body, 0); }\n')
@@ -135,7 +158,8 @@ def test_failed_link(tmp_path: Path) -> None:
     for folder in [top / "embed", top / "include", top / "scripts", archive.parent]:
         folder.mkdir(parents=True)
     shutil.copy(EMBED / "build", top / "embed")
-    shutil.copy(INCLUDE / "coniks.h", top / "include")
+    for it in ("coniks.h", "coniks_core.h"):
+        shutil.copy(INCLUDE / it, top / "include")
     shutil.copy(ARCHIVE, archive)
     writes_a_part = 'while [ $# -gt 1 ]; do [ "$1" != -o ] || echo part >"$2"; shift; done; exit 1'
     for file, text in [(top / "scripts/built", "exit 0"), (top / "scripts/crates", "exit 0"), (linker, writes_a_part)]:
@@ -186,7 +210,7 @@ def test_audit_signed(tmp_path: Path) -> None:
 
 
 def test_exports(tmp_path: Path, lines: Sequence[samples.Line], pytestconfig: pytest.Config) -> None:
-    """Calls of every export, each argument beside inaccessible pages and under the sanitizers: each result is the model's."""
+    """Calls of every export of coniks.h, each argument beside inaccessible pages and under the sanitizers: each result is the model's."""
     driver = compiled(tmp_path, EMBED / "c/guarded.c", "-std=c99", "-O1", "-g", *sanitizers(tmp_path))
     chance, count, called = random.Random(SEED), pytestconfig.getoption("calls"), set[int]()
     for done in range(0, count, 20000):
@@ -197,7 +221,7 @@ def test_exports(tmp_path: Path, lines: Sequence[samples.Line], pytestconfig: py
         wrong = [(calls[it // 2], mine, theirs) for it, (mine, theirs) in enumerate(zip(said, wanted)) if mine != theirs]
         assert ran.returncode == 0 and len(said) == len(wanted) and not wrong, (ran.stderr.decode()[:2000], wrong[:2])
         called.update(it[0] for it in calls)
-    assert called == set(range(len(declared()))), "every export is called"
+    assert called == set(range(len(declared(HEADER)))), "every export is called"
 
 
 def record_of(question: samples.Question) -> bytes:

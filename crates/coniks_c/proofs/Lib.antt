@@ -1,3 +1,9 @@
 mod KeyLemmas
 mod VerdictLemmas
 mod StatusLemmas
+mod ToldLemmas
+mod QuorumLemmas
+mod FeedLemmas
+mod StartLemmas
+mod HistoryLemmas
+mod CoreStateLemmas

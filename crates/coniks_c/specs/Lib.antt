@@ -3,3 +3,8 @@ pub mod Crossing
 pub mod Statuses
 pub mod Texts
 pub mod Watched
+pub mod CoreFeed
+pub mod CoreStatuses
+pub mod CoreTold
+pub mod CoreQuorum
+pub mod CoreStates

@@ -1,0 +1,90 @@
+-- What the caller of C knows of its auditors, and what is written of a report and of dropped epochs.
+use Rattle.std.specs.Prelude.{◌≡◌, ◌≢◌, ◌==◌, ◌⊎◌, ◌<◌, ◌+◌, ℕ, List, [], Option, Some, None, if◌then◌else◌, nat_lt, length, map, slice_get, take, drop}
+use Rattle.coniks_proof.specs.declared.values.Head.{Head}
+use Rattle.coniks_client.specs.Changes.{begun, expected, wanted}
+use Rattle.coniks_client.specs.Kept.{epoch_in, epoch_of, latest_epoch}
+use Rattle.coniks_client.specs.declared.changes.Change.{Change}
+use Rattle.coniks_client.specs.declared.kept.Kept.{Kept}
+use Rattle.coniks_client.specs.declared.times.Present.{Present}
+use Rattle.coniks_quorum.specs.Alarms.{alarms_of}
+use Rattle.coniks_quorum.specs.Covering.{IsCoverable}
+use Rattle.coniks_quorum.specs.Marks.{IsGreatest, ReachesNone}
+use Rattle.coniks_quorum.specs.declared.alarms.Alarm.{Alarm}
+use Rattle.coniks_quorum.specs.declared.lost.Promise.{Promise}
+use Rattle.coniks_quorum.specs.declared.lost.Promise.TheVariants.{Forever, Seconds}
+use Rattle.coniks_quorum.specs.declared.reporting.Report.{Report}
+use Rattle.coniks_quorum.specs.declared.reporting.Report.TheVariants.{Changed, Missing, Lost, Unwatched, Unconfirmed, Good}
+use Rattle.coniks_c.specs.declared.core_cover.RawCovered.{RawCovered}
+use Rattle.coniks_c.specs.declared.core_report.RawPromise.{RawPromise}
+use Rattle.coniks_c.specs.declared.core_report.RawReport.{RawReport}
+use Rattle.coniks_c.specs.declared.core_start.RawHead.{RawHead}
+use Rattle.coniks_c.specs.declared.core_values.RawWatch.{RawWatch}
+
+-- the greatest epoch that a quorum of marks confirms, if it confirms any; 0 is no quorum, and confirms none
+abbrev pub ConfirmsTo : List ℕ → ℕ → Option ℕ → Type 0
+ConfirmsTo marks quorum None = (quorum ≡ 0) ⊎ ReachesNone marks quorum
+ConfirmsTo marks quorum (Some epoch) = (0 < quorum) × IsGreatest marks quorum epoch
+
+-- the auditor's head, if the number says that there is one
+abbrev pub head_in : RawHead → Option Head
+head_in raw = if raw.is_there == 1 then Some (record { epoch = raw.epoch; link = record { 0 = raw.link.bytes } }) else None
+
+abbrev pub heads_in : List RawHead → List (Option Head)
+heads_in heads = map head_in heads
+
+-- why the caller must not make this start, by the numbers of kept epochs, of the quorum, of heads, and of epochs that there is room
+-- for: the first status of these, else 0
+abbrev pub misused_start : ℕ → ℕ → ℕ → ℕ → ℕ
+misused_start count quorum heads room = if nat_lt 0 count then 140 else (if quorum == 0 then 141 else (if nat_lt 64 heads then 142 else (if room == 0 then 137 else 0)))
+
+-- how long the policy promises proofs: for this many seconds, if the number says so, else forever
+abbrev pub promise_in : RawPromise → Promise
+promise_in raw = if raw.is_limited == 1 then Seconds raw.seconds else Forever
+
+-- what is written of a report: its number and its epochs
+abbrev pub raw_report : Report → RawReport
+raw_report (Changed epoch) = record { verdict = 1; from = epoch; to = epoch }
+raw_report (Missing epoch) = record { verdict = 2; from = epoch; to = epoch }
+raw_report (Lost epoch) = record { verdict = 3; from = epoch; to = epoch }
+raw_report Unwatched = record { verdict = 4; from = 0; to = 0 }
+raw_report (Unconfirmed span) = record { verdict = 5; from = span.from; to = span.to }
+raw_report (Good span) = record { verdict = 6; from = span.from; to = span.to }
+
+-- the first n elements of the first `before` were dropped: the others are at the front, and what is after them is as it was
+pub record AreMoved {X : Type 0} (old new : List X) (before after n : ℕ) : Type 0 where
+  pub count : before ≡ n + after
+  pub left : take after new ≡ drop n (take before old)
+  pub room : drop after new ≡ drop after old
+
+-- the alarms that epochs leave when they are dropped: none if no name is watched
+abbrev pub left_alarms : RawWatch → List Kept → List Alarm
+left_alarms watch dropped = if watch.is_watched == 1 then alarms_of watch.since dropped else []
+
+-- this number of the first kept epochs may be dropped, by the epoch that a quorum of the marks confirms
+abbrev pub CoversTo : Present → Promise → List Kept → List ℕ → ℕ → ℕ → Type 0
+CoversTo present promise kept marks quorum n = (confirmed : Option ℕ) × ConfirmsTo marks quorum confirmed × IsCoverable present promise kept confirmed n
+
+-- there is no room for the alarms of these epochs after those that there are
+abbrev pub LacksRoom : Present → Promise → List Kept → List ℕ → ℕ → RawWatch → ℕ → ℕ → Type 0
+LacksRoom present promise kept marks quorum watch count room =
+    (n : ℕ) × CoversTo present promise kept marks quorum n × (room < count + length (left_alarms watch (take n kept)))
+
+-- what is written of dropped epochs: how many, the first and the last one, and how many alarms they left
+pub record SaysDropped (watch : RawWatch) (dropped : List Kept) (covered : RawCovered) : Type 0 where
+  pub epochs : covered.epochs ≡ length dropped
+  pub from : covered.from ≡ epoch_of (slice_get dropped 0)
+  pub to : covered.to ≡ latest_epoch dropped
+  pub alarms : covered.alarms ≡ length (left_alarms watch dropped)
+
+-- the changes of the watched key are those that the epochs from the oldest one on need, and its first key is that of the last dropped one
+pub record IsSettled (oldest : ℕ) (old new : RawWatch) (before after : List Change) (dropped : ℕ) : Type 0 where
+  pub count : dropped ≡ begun before oldest
+  pub changes : after ≡ drop dropped before
+  pub key : wanted new.key.now ≡ expected (wanted old.key.now) before oldest
+  pub watch : new ≡ record old { key = new.key }
+
+-- so it is for a watched name and the oldest kept epoch, if there are both; else nothing changed
+pub record Settles (kept : List Kept) (old new : RawWatch) (before after : List Change) (dropped : ℕ) : Type 0 where
+  pub settled : old.is_watched ≡ 1 → (oldest : Kept) → slice_get kept 0 ≡ Some oldest → IsSettled (epoch_in oldest) old new before after dropped
+  pub unwatched : old.is_watched ≢ 1 → (new ≡ old) × (after ≡ before) × (dropped ≡ 0)
+  pub empty : slice_get kept 0 ≡ None → (new ≡ old) × (after ≡ before) × (dropped ≡ 0)
