@@ -195,7 +195,7 @@ export interface Client {
   compare(head: Head): "equal" | "unknown" | "differs";
   /**
    * Compares an auditor's head, and drops the entries before it if it is equal: the auditor's chain has them. Epochs that are missing
-   * stay, with what follows them, and so do those of a change that is open.
+   * stay, with what follows them.
    */
   cover(head: Head): "equal" | "unknown" | "differs";
   /** Returns what convicts the provider together with another one's entry, or null. Throws `Refusal` if that isn't signed. */

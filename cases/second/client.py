@@ -3,7 +3,7 @@
 from __future__ import annotations
 
 from dataclasses import dataclass, replace
-from typing import Any, Callable, Optional, Sequence
+from typing import Any, Callable, Optional, Sequence, TypeVar
 
 import curve
 from bytelists import LONGEST_NAME, ZEROS, number, sha256
@@ -27,10 +27,9 @@ NUMBERS = {
     "StateChain": 101, "NotVouched": 104, "AuditorsDiffer": 105, "SigningKey": 112, "VrfKey": 113, "PolicyKeys": 114,
 }  # fmt: skip
 
-# What is seen of the watched name, by its number in a state; the key and the new key are both the expected one.
-# A key that was expected before the latest change is the key too.
-UNWATCHED, OLD, NEW, CHANGED, ABSENT, MISSING = range(6)
-SEEN = [None, "same", "same", "changed", "absent", "missing"]
+# What is seen of the watched name, by its number in a state.
+UNWATCHED, SAME, CHANGED, ABSENT, MISSING = 0, 1, 3, 4, 5
+SEEN = {UNWATCHED: None, SAME: "same", CHANGED: "changed", ABSENT: "absent", MISSING: "missing"}
 
 Answer = dict[str, Any]
 
@@ -55,18 +54,61 @@ class Kept:
 
 
 @dataclass(frozen=True)
+class Change:
+    """A change of the watched key: up to the last old epoch the key before it is shown, from the first new one on the new key."""
+
+    last_old: int
+    first_new: int
+    key: bytes
+
+
+@dataclass(frozen=True)
 class Watch:
-    """The watched name: its key from an epoch on, and the change that is expected. A key of no byte is none."""
+    """The watched name: its key from an epoch on, and the changes of it in their order. A key of no byte is none."""
 
     name: bytes
     since: int
     key: bytes
-    after: int = 0
-    by: Optional[int] = None
-    new: bytes = b""
+    changes: tuple[Change, ...] = ()
+
+    @property
+    def keys(self) -> list[bytes]:
+        """The first key, and that of each change."""
+        return [self.key, *(it.key for it in self.changes)]
+
+    def begun(self, epoch: int) -> int:
+        """The number of changes whose first new epoch is this one or an earlier one."""
+        return sum(it.first_new <= epoch for it in self.changes)
+
+    def key_of(self, epoch: int) -> bytes:
+        return self.keys[self.begun(epoch)]
+
+    def after(self, epoch: int, key: bytes) -> Optional[Watch]:
+        """The watch after an epoch showed a key, None if the epoch may not show it."""
+        begun, is_key = self.begun(epoch), key == self.key_of(epoch)
+        following = self.changes[begun] if begun < len(self.changes) else None
+        if following is None or epoch <= following.last_old:
+            return self if is_key else None
+        if not is_key and key != following.key:
+            return None
+        marked = replace(following, last_old=epoch) if is_key else replace(following, first_new=epoch)
+        return replace(self, changes=(*self.changes[:begun], marked, *self.changes[begun + 1 :]))
+
+    def without(self, oldest: int) -> Watch:
+        """The watch without the changes that have begun at the oldest kept epoch."""
+        return replace(self, key=self.key_of(oldest), changes=self.changes[self.begun(oldest) :])
+
+    @property
+    def is_in_order(self) -> bool:
+        froms = [0, *(it.first_new for it in self.changes)]
+        in_order = all(start <= it.last_old < it.first_new for start, it in zip(froms, self.changes))
+        return in_order and all(old != it.key for old, it in zip(self.keys, self.changes))
 
 
 class Client:
+    # The version of its states, and the bytes of the shortest one.
+    version, shortest = 2, 70
+
     def __init__(
         self, signing_key: bytes, vrf_key: Optional[bytes], policy: bytes, *, max_age: Optional[int] = None, skew: int = 300
     ) -> None:
@@ -156,9 +198,9 @@ class Client:
         """Drops the entries before one that an auditor has too, but none that the watched name still needs."""
         found = self.compare(epoch, link)
         if found["compare"] == "equal":
-            is_open = self.watched is not None and self.latest is not None and (self.watched.by or 0) > self.latest.entry.epoch
-            needed = [it.entry.epoch for it in self.kept if it.seen == MISSING or (is_open and it.seen == NEW)]
-            self.kept = [it for it in self.kept if it.entry.epoch >= min([epoch, *needed])]
+            oldest = min([epoch, *self.missing()["missing"]])
+            self.kept = [it for it in self.kept if it.entry.epoch >= oldest]
+            self.watched = self.watched.without(oldest) if self.watched else None
         return found
 
     def evidence(self, whole: bytes) -> Answer:
@@ -218,11 +260,11 @@ class Client:
             raise refused(str(fault.answer["fault"]))
 
     def found(self, name: bytes, kept: Kept, key: Optional[bytes], now: int) -> Answer:
+        seen = None
         if self.watched and name == self.watched.name and kept.entry.epoch >= self.watched.since:
-            kept.seen = self.seen(self.watched, kept.entry.epoch, key or b"")
-            seen = SEEN[kept.seen]
-        else:
-            seen = None
+            after = self.watched.after(kept.entry.epoch, key or b"")
+            kept.seen = SAME if after else CHANGED if key else ABSENT
+            self.watched, seen = after or self.watched, SEEN[kept.seen]
         shown = None if key is None else key.hex()
         return {"epoch": kept.entry.epoch, "key": shown, "seen": seen, "age": self.age(kept, now), "first_seen": kept.time}
 
@@ -252,8 +294,7 @@ class Client:
 
     def watch_again(self, watch: Watch, name: bytes, key: bytes, since: Optional[int]) -> Answer:
         """The same watch once more, which changes nothing."""
-        is_expected = key == watch.key or (watch.by is not None and key == watch.new)
-        if name != watch.name or not is_expected or since not in (None, watch.since):
+        if name != watch.name or key not in watch.keys or since not in (None, watch.since):
             raise Misuse
         return {"watch": watch.since}
 
@@ -262,25 +303,10 @@ class Client:
         if not self.watched or new == b"" or by <= latest:
             raise Misuse
         watch, key = self.watched, new or b""
-        if watch.by is not None and latest < watch.by:
+        if watch.begun(latest) < len(watch.changes) or key == watch.key_of(latest):
             raise Misuse
-        watch = watch if watch.by is None else replace(watch, key=watch.new)
-        if key == watch.key:
-            raise Misuse
-        for it in self.kept:
-            it.seen = OLD if it.seen == NEW else it.seen
-        self.watched = replace(watch, after=latest, by=by, new=key)
+        self.watched = replace(watch, changes=(*watch.changes, Change(latest, by, key)))
         return {"expect": by}
-
-    def seen(self, watch: Watch, epoch: int, key: bytes) -> int:
-        """What a key, none as no byte, is at an epoch."""
-        old = [it.entry.epoch for it in self.kept if it.seen == OLD]
-        new = [it.entry.epoch for it in self.kept if it.seen == NEW]
-        if key == watch.key and (watch.by is None or (epoch < watch.by and all(it >= epoch for it in new))):
-            return OLD
-        if watch.by is not None and key == watch.new and epoch > watch.after and all(it <= epoch for it in old):
-            return NEW
-        return CHANGED if key else ABSENT
 
     def missing(self) -> Answer:
         return {"missing": [it.entry.epoch for it in self.kept if it.seen == MISSING]}
@@ -293,29 +319,28 @@ class Client:
 
     @property
     def state(self) -> bytes:
-        kept = [it.entry.whole + number(it.time, 8) + number(it.seen, 1) for it in self.kept]
-        body = b"\1" + self.policy.digest + number(len(kept), 4) + b"".join(kept) + watch_bytes(self.watched)
+        body = number(self.version, 1) + self.policy.digest + kept_bytes(self.kept) + watch_bytes(self.watched)
         return body + sha256(body)
 
     def resume(self, state: bytes) -> None:
-        if len(state) < 70:
+        it = self.opened(state)
+        kept, watched = kept_of(it), watch_of(it)
+        if not it.is_over() or not all(fits(at, watched) for at in kept):
+            raise refused("StateForm")
+        self.check_chain([at.entry for at in kept])
+        self.kept, self.watched = kept, watched
+
+    def opened(self, state: bytes) -> Reader:
+        """The parts of a state after its policy digest, up to its own digest."""
+        if len(state) < self.shortest:
             raise refused("StateLength")
-        if state[0] != 1:
+        if state[0] != self.version:
             raise refused("StateVersion")
         if sha256(state[:-32]) != state[-32:]:
             raise refused("StateDamaged")
         if state[1:33] != self.policy.digest:
             raise refused("StatePolicy")
-        it = Reader(state[33:-32])
-        count = it.number(4, "StateForm")
-        kept = [
-            Kept(Entry(it.take(ENTRY, "StateForm")), it.number(8, "StateForm"), it.number(1, "StateForm")) for _ in range(count)
-        ]
-        watched = watch_of(it)
-        if not it.is_over() or not all(fits(at, watched) for at in kept):
-            raise refused("StateForm")
-        self.check_chain([at.entry for at in kept])
-        self.kept, self.watched = kept, watched
+        return Reader(state[33:-32])
 
     def check_chain(self, entries: Sequence[Entry]) -> None:
         befores = [None, *entries]
@@ -338,22 +363,33 @@ def fault_of(entry: Entry, before: Optional[Entry]) -> Optional[str]:
 
 def fits(kept: Kept, watched: Optional[Watch]) -> bool:
     """Whether what was seen at an epoch can be."""
-    if watched is None or kept.entry.epoch < watched.since:
+    epoch = kept.entry.epoch
+    if watched is None or epoch < watched.since:
         return kept.seen == UNWATCHED
-    return OLD <= kept.seen <= MISSING and (kept.seen != NEW or watched.by is not None)
+    is_undecided = any(it.last_old < epoch < it.first_new for it in watched.changes)
+    return kept.seen in (CHANGED, ABSENT, MISSING) or (kept.seen == SAME and not is_undecided)
 
 
 def sized(text: bytes, length: int) -> bytes:
     return number(len(text), length) + text
 
 
+def kept_bytes(kept: Sequence[Kept]) -> bytes:
+    """Kept epochs in a state, after their number."""
+    return number(len(kept), 4) + b"".join(it.entry.whole + number(it.time, 8) + number(it.seen, 1) for it in kept)
+
+
+def kept_of(it: Reader) -> list[Kept]:
+    count = it.number(4, "StateForm")
+    return [Kept(Entry(it.take(ENTRY, "StateForm")), it.number(8, "StateForm"), it.number(1, "StateForm")) for _ in range(count)]
+
+
 def watch_bytes(watch: Optional[Watch]) -> bytes:
     if watch is None:
         return b"\0"
-    first = sized(watch.name, 1) + number(watch.since, 8) + sized(watch.key, 4)
-    if watch.by is None:
-        return b"\1" + first
-    return b"\2" + first + number(watch.after, 8) + number(watch.by, 8) + sized(watch.new, 4)
+    changes = [number(it.last_old, 8) + number(it.first_new, 8) + sized(it.key, 4) for it in watch.changes]
+    first = b"\1" + sized(watch.name, 1) + number(watch.since, 8) + sized(watch.key, 4)
+    return first + number(len(changes), 4) + b"".join(changes)
 
 
 def watch_of(it: Reader) -> Optional[Watch]:
@@ -361,17 +397,20 @@ def watch_of(it: Reader) -> Optional[Watch]:
     if kind == 0:
         return None
     name, since, key = it.sized(1, "StateForm"), it.number(8, "StateForm"), it.sized(4, "StateForm")
-    if kind > 2 or not name:
+    changes = tuple(change_of(it) for _ in range(it.number(4, "StateForm")))
+    watch = Watch(name, since, key, changes)
+    if kind != 1 or not name or not watch.is_in_order:
         raise refused("StateForm")
-    if kind == 1:
-        return Watch(name, since, key)
-    after, by, new = it.number(8, "StateForm"), it.number(8, "StateForm"), it.sized(4, "StateForm")
-    if by <= after or key == new:
-        raise refused("StateForm")
-    return Watch(name, since, key, after, by, new)
+    return watch
+
+
+def change_of(it: Reader) -> Change:
+    return Change(it.number(8, "StateForm"), it.number(8, "StateForm"), it.sized(4, "StateForm"))
 
 
 # Cases: how a client is made, and its steps, as members of a line of cases/client.
+
+OfCase = TypeVar("OfCase", bound=Client)
 
 
 def data(members: Answer, name: str) -> Optional[bytes]:
@@ -381,8 +420,20 @@ def data(members: Answer, name: str) -> Optional[bytes]:
 
 def begun(case: Answer) -> Client:
     """The client of a case."""
-    keys = bytes.fromhex(case["signing_key"]), data(case, "vrf_key")
-    client = Client(*keys, case["policy"].encode(), max_age=case.get("max_age"), skew=case.get("skew", 300))
+    return started(case, Client(*keys_of(case), **limits_of(case)))
+
+
+def keys_of(case: Answer) -> tuple[bytes, Optional[bytes], bytes]:
+    """The keys of a case, and its policy document."""
+    return bytes.fromhex(case["signing_key"]), data(case, "vrf_key"), case["policy"].encode()
+
+
+def limits_of(case: Answer) -> dict[str, Any]:
+    return {"max_age": case.get("max_age"), "skew": case.get("skew", 300)}
+
+
+def started(case: Answer, client: OfCase) -> OfCase:
+    """The client of a case, which goes on from a state or starts late if the case says so."""
     state, vouched = data(case, "state"), case.get("vouched")
     if state is not None:
         client.resume(state)
@@ -441,10 +492,15 @@ def plain(value: Any) -> Any:
 
 def verdicts(case: Answer) -> Answer:
     """All that the client of a case returns: when it is made, for each step, and its state at the end."""
-    made: list[Client] = []
+    return verdicts_of(case, begun, stepped)
+
+
+def verdicts_of(case: Answer, make: Callable[[Answer], OfCase], take: Callable[[OfCase, Answer, int], Answer]) -> Answer:
+    """The same of a client that is made and takes its steps so."""
+    made: list[OfCase] = []
 
     def begin() -> Answer:
-        made.append(begun(case))
+        made.append(make(case))
         return {"begun": True}
 
     answer = told(begin)
@@ -454,5 +510,5 @@ def verdicts(case: Answer) -> Answer:
     answers = []
     for step in case["steps"]:
         now = step.get("now", now)
-        answers.append(told(lambda: stepped(client, step, now)))
+        answers.append(told(lambda: take(client, step, now)))
     return {"begin": answer, "steps": answers, "state": sha256(client.state).hex()}

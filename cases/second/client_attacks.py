@@ -140,6 +140,8 @@ def entries() -> Iterator[Answer]:
     yield case("feed: a first entry of epoch 0", [feed(resigned(first, 1, number(0, 8)))], "Malformed malformed")
     yield case("feed: a first entry with a link", [feed(resigned(first, 49, sha256(b"link")))], "Malformed malformed")
     yield case("feed: a first entry of another policy", [feed(resigned(first, 113, sha256(b"policy")))], "OtherPolicy")
+    both = resigned(edited(first, 0, b"\3"), 113, sha256(b"policy"))
+    yield case("feed: a first entry of another policy and of version 3", [feed(both)], "OtherPolicy malformed")
     yield case("feed: what comes before a refused entry is kept", [feed(first, second, first, third), good], "NotLater", went_on)
     yield case("feed: nothing after a refused entry is looked at", [feed(second, first), feed(first)], "PreviousEpoch", "fed 1")
     fork = [THREE, feed(OTHER[3]), feed(OTHER[4])]

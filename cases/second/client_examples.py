@@ -1,4 +1,4 @@
-"""The examples of docs/FORMATS.md: a reply, a history and a client's state of a small directory, under the keys of its policy."""
+"""The examples of docs/FORMATS.md: a reply, a history and clients' states of a small directory, under the keys of its policy."""
 
 from __future__ import annotations
 
@@ -8,6 +8,7 @@ import curve
 from bytelists import commitment, number
 from chain import Entry, body_after
 from client import Client
+from client_alarms import AlarmClient, Trust
 from client_world import START, policy_text
 from replies import history, reply
 from tree import node, path
@@ -37,8 +38,27 @@ def entries(epochs: list[list[bytes]], policy: bytes) -> Iterator[tuple[bytes, b
         yield before.whole, b"\2" + number(len(siblings), 2) + b"".join(siblings) + end
 
 
+# The two auditors of the trust document, of which none may be faulty.
+TRUST = Trust.of(bytes.fromhex("ad32de92b1381c0caed8b03c790600c99592e192cc8f8fc605e7f6dc6eeb8650"), 2, 0)
+
+
+def with_alarm() -> bytes:
+    """The state of a client that watches alice for another key, and that dropped epoch 1."""
+    client = AlarmClient(curve.public_key(SIGNING), curve.public_key(VRF), POLICY.encode(), trust=TRUST)
+    (first, one), (second, two) = entries([[b"alice"], [b"alice", b"bob"]], client.policy.digest)
+    client.watch(b"alice", b"l", 1)
+    client.feed([first], START + 60)
+    client.feed([second], START + 3660)
+    client.history(b"alice", history(curve.prove(VRF, b"alice"), [(1, one), (2, two)]), START + 3660)
+    for auditor in range(2):
+        client.mark(auditor, 2, Entry(second).link)
+    client.drop(START + 3660)
+    return client.state
+
+
 def examples() -> dict[str, bytes]:
-    """Alice is registered at epoch 1, and bob at epoch 2. A client watches alice, and got a reply for epoch 2."""
+    """Alice is registered at epoch 1, and bob at epoch 2. A client watches alice, and got a reply for epoch 2. Then it expects
+    another key; of that state there is the end."""
     keys = curve.public_key(SIGNING), curve.public_key(VRF)
     client, vrf = Client(*keys, POLICY.encode()), curve.prove(VRF, b"alice")
     (first, one), (second, two) = entries([[b"alice"], [b"alice", b"bob"]], client.policy.digest)
@@ -47,14 +67,25 @@ def examples() -> dict[str, bytes]:
     client.feed([second], START + 3660)
     replied = reply(second, vrf, two)
     client.lookup(b"alice", replied, None, START + 3660)
-    return {"reply": replied, "history": history(vrf, [(1, one), (2, two)]), "state": client.state}
+    state = client.state
+    client.expect(b"n", 5)
+    watched = client.state[37 + 2 * 218 :]
+    return {
+        "reply": replied,
+        "history": history(vrf, [(1, one), (2, two)]),
+        "state": state,
+        "watch": watched,
+        "alarm": with_alarm(),
+    }
 
 
 # The lengths of the parts that have a line of their own.
 PARTS = {
     "reply": [1, 209, 2, 80, 3, 32, 32, 7, 5],
     "history": [1, 2, 80, 11, 32, 7, 5, 12, 32],
-    "state": [1, 32, 4, 209, 8, 1, 209, 8, 1, 7, 8, 5, 32],
+    "state": [1, 32, 4, 209, 8, 1, 209, 8, 1, 7, 8, 5, 4, 32],
+    "watch": [7, 8, 5, 4, 8, 8, 5, 32],
+    "alarm": [1, 32, 4, 209, 8, 1, 4, 8, 1, 32, 4, 8, 8, 7, 8, 5, 4, 32],
 }
 
 

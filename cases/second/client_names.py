@@ -7,7 +7,7 @@ from typing import Iterator, Optional
 from bytelists import number, sha256
 from client import Answer, begun, stepped
 from client_attacks import FED, OTHER, THREE, WORLD, case, edited, feed, flipped, lookup, resigned
-from client_cases import ALL, ALL_FED, FIRST_KEY, SECOND_KEY, history, watch
+from client_cases import ALL, ALL_FED, EQUAL, FIRST_KEY, SECOND_KEY, head, history, watch
 from client_world import World, hour
 
 MISSING = {"do": "missing"}
@@ -136,26 +136,9 @@ def turns(third: list[Answer]) -> Iterator[Answer]:
     wanted = ["watch 1", "expect 2", told[2], "expect 5", "fed 5 missing"]
     looked = [shown("alice", it, TURNING) for it in (4, 5, 3)]
     yield case("expect: a second change after the first", [*later, *looked], *wanted, "B same", "C same", "A changed")
-    covered = {"do": "cover", "epoch": 5, "link": WORLD.link(5).hex()}
-    kept = [*third, shown("alice", 2), covered, shown("alice", 2), shown("alice", 3)]
-    wanted = [
-        "fed 1 2",
-        "watch 2",
-        "expect 5",
-        "fed 3 missing 5 missing",
-        f"{SECOND_KEY} same",
-        f"{FIRST_KEY} same",
-        "compare equal",
-    ]
+    kept = [*third, shown("alice", 2), head("cover", 5, WORLD.link(5)), shown("alice", 2), shown("alice", 3)]
+    wanted = ["fed 1 2", "watch 2", "expect 5", "fed 3 missing 5 missing", f"{SECOND_KEY} same", f"{FIRST_KEY} same", EQUAL]
     yield case("expect: what an auditor covers", kept, *wanted, "UnknownEpoch", "UnknownEpoch", now=hour(5))
-    steps = [feed(WORLD[2]), feed(*WORLD.entries(3, 5)), shown("alice", 3), shown("alice", 5), covered, shown("alice", 3)]
-    still_open = [feed(WORLD[1]), watch("alice", FIRST_KEY), shown("alice", 1), expect(SECOND_KEY, 9), *steps]
-    new = f"{SECOND_KEY} same"
-    wanted = ["fed 1", "watch 1", f"{FIRST_KEY} same", "expect 9", "fed 2 missing", "fed 3 missing 5 missing", new, new]
-    yield case("expect: an open change stays when an auditor covers it", still_open, *wanted, "compare equal", new, now=hour(5))
-    proved = [*still_open[:5], shown("alice", 2), *steps[1:]]
-    wanted = [*wanted[:5], f"{FIRST_KEY} same", *wanted[5:]]
-    yield case("expect: an open change stays, and nothing is missing", proved, *wanted, "compare equal", new, now=hour(5))
 
 
 def state_after(steps: list[Answer], now: int = hour(3), **more: str) -> bytes:
@@ -195,7 +178,9 @@ WATCHING = ["missing 2", "fed 3 missing", f"{SECOND_KEY} same"]
 def damaged(plain: bytes, watching: bytes) -> Iterator[tuple[str, bytes, str]]:
     yield "no byte", b"", "StateLength"
     yield "69 bytes", plain[:69], "StateLength"
-    yield "version 0", renewed(edited(plain, 0, b"\0")), "StateVersion"
+    for version in (0, 1, 3):
+        yield f"version {version}", renewed(edited(plain, 0, bytes([version]))), "StateVersion"
+    yield "version 1, of a watched name", renewed(edited(watching, 0, b"\1")), "StateVersion"
     yield "one byte less", plain[:-1], "StateDamaged"
     yield "one byte more", plain + b"\0", "StateDamaged"
     parts = {"policy": 5, "number of epochs": 36, "entry": 60, "time": 37 + 210, "seen": 37 + 217, "watch": -40, "digest": -1}
@@ -215,12 +200,17 @@ def forged(plain: bytes, watching: bytes) -> Iterator[tuple[str, bytes, str]]:
         ("very many epochs", edited(plain, 33, b"\xff" * 4), "StateForm"),
         ("bytes follow", plain[:-32] + b"\0" + plain[-32:], "StateForm"),
         ("seen without a watched name", edited(plain, 254, b"\1"), "StateForm"),
+        ("seen 2 without a watched name", edited(plain, 254, b"\2"), "StateForm"),
+        ("seen 2", edited(watching, 254, b"\2"), "StateForm"),
         ("seen 6", edited(watching, 254, b"\6"), "StateForm"),
         ("seen 0 of a watched epoch", edited(watching, 254, b"\0"), "StateForm"),
-        ("an unknown watch", edited(watching, end, b"\3"), "StateForm"),
+        ("a watch of kind 2", edited(watching, end, b"\2"), "StateForm"),
+        ("a watch of kind 3", edited(watching, end, b"\3"), "StateForm"),
         ("a watch of no name", edited(watching, end, b"\1\0"), "StateForm"),
-        ("a change that ends before it begins", edited(watching, end + 39, number(2, 8)), "StateForm"),
-        ("a change to the same key", same_key(watching, end), "StateForm"),
+        ("one change more", edited(watching, end + 31, number(2, 4)), "StateForm"),
+        ("one change less", edited(watching, end + 31, number(0, 4)), "StateForm"),
+        ("very many changes", edited(watching, end + 31, b"\xff" * 4), "StateForm"),
+        ("cut in a change", watching[:-33] + bytes(32), "StateForm"),
         ("another root", edited(plain, 37, root), "StateChain"),
         ("another root, signed", edited(plain, 37, other), "StateChain"),
         ("the last root, not signed", edited(plain, LAST + 17, bytes(32)), "StateChain"),
@@ -233,9 +223,3 @@ def forged(plain: bytes, watching: bytes) -> Iterator[tuple[str, bytes, str]]:
         ("an entry of another policy", edited(plain, 37, resigned(plain[37:246], 113, bytes(32))), "StateChain"),
     ]:
         yield what, renewed(state), wanted
-
-
-def same_key(watching: bytes, end: int) -> bytes:
-    """The state with the old key in place of the new one."""
-    key = FIRST_KEY.encode()
-    return watching[: end + 1 + 6 + 8 + 4 + len(key) + 16] + number(len(key), 4) + key + bytes(32)

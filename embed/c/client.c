@@ -120,8 +120,7 @@ void coniks_client_free(coniks_client *client)
     if (client == NULL)
         return;
     memory = client->memory;
-    client_free_slice(&memory, &client->watch.key);
-    client_free_slice(&memory, &client->watch.new_key);
+    client_free_watch(client);
     if (client->kept)
         memory.release(memory.context, client->kept);
     memory.release(memory.context, client);
@@ -423,10 +422,11 @@ uint32_t coniks_client_cover(coniks_client *client, const coniks_client_head *he
     size_t first = 0;
     if (found != CONIKS_CLIENT_EQUAL)
         return found;
-    while (client->kept[first].body.epoch < head->epoch && !client_needs(client, &client->kept[first]))
+    while (client->kept[first].body.epoch < head->epoch && client->kept[first].seen != SEEN_MISSING)
         first++;
     client->count -= first;
     memmove(client->kept, client->kept + first, client->count * sizeof *client->kept);
+    client_settle(client);
     return found;
 }
 

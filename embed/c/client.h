@@ -18,8 +18,9 @@
  * provider is in `struct coniks_client_refusal`: publish it.
  *
  * Memory. The client allocates by `settings.memory`, and frees all of it in coniks_client_free. It keeps up to 820 bytes for each
- * entry until coniks_client_cover drops it. No length in a message decides how much is allocated: beside the entries that are
- * kept, a call allocates at most 9 KiB more than the bytes that it is given. Calls use at most 32 KiB of stack.
+ * entry, and 32 bytes and the new key for each change of the watched key, until coniks_client_cover drops it. No length in a message
+ * decides how much is allocated: beside what is kept, a call allocates at most 9 KiB more than the bytes that it is given. Calls use
+ * at most 32 KiB of stack.
  *
  * Threads. There is no global state. A client is for one thread at a time, and can't be copied: one of both would miss what the
  * other is fed. Pass its state on instead.
@@ -301,7 +302,7 @@ uint32_t coniks_client_compare(const coniks_client *client, const coniks_client_
 
 /*
  * Drops the entries before that of an auditor's head, if it is one of this chain: the auditor's chain has them. Epochs that are
- * missing stay, with what follows them, and so do those of a change that is open. Returns what coniks_client_compare does.
+ * missing stay, with what follows them. Returns what coniks_client_compare does.
  */
 CONIKS_NODISCARD CONIKS_NONNULL((1, 2))
 uint32_t coniks_client_cover(coniks_client *client, const coniks_client_head *head);

@@ -7,7 +7,7 @@
 enum { LONGEST_NAME = CONIKS_MAX_NAME, DEEPEST = 256, HASH_BYTES = 32, VRF_PROOF_BYTES = 80 };
 
 /* What was seen of the watched name, by its number in a state. */
-enum seen { SEEN_UNWATCHED, SEEN_KEY, SEEN_NEW_KEY, SEEN_CHANGED, SEEN_ABSENT, SEEN_MISSING };
+enum seen { SEEN_UNWATCHED = 0, SEEN_SAME = 1, SEEN_CHANGED = 3, SEEN_ABSENT = 4, SEEN_MISSING = 5 };
 
 /* An entry that was accepted, when that was, and what was seen of the watched name. */
 struct kept {
@@ -24,14 +24,23 @@ struct slice {
     size_t length;
 };
 
-/* The watched name: the key that epochs from `since` on must show, of no byte if it must be bound to none. If `has_change` is 1,
- * epochs after `after` may show the new key, and those from `by` on must. The client owns both keys. */
+/* A change of the watched key that its owner makes: epochs up to `last_old` show the key before it, and those from `first_new` on the
+ * new key. An epoch between both may show either. */
+struct change {
+    uint64_t last_old, first_new;
+    struct slice key;
+};
+
+/* The watched name: the key that epochs from `since` on must show before the first change, of no byte if it must be bound to none, and
+ * the changes in their order. The client owns all keys. */
 struct watch {
-    int is_set, has_change;
+    int is_set;
     uint8_t name[LONGEST_NAME];
     size_t name_length;
-    uint64_t since, after, by;
-    struct slice key, new_key;
+    uint64_t since;
+    struct slice key;
+    struct change *changes;
+    size_t count;
 };
 
 /* The policy, as far as a client needs it. The period is 0 without a clock. If `has_end` is 1, proofs are kept for `proofs_kept`
@@ -121,12 +130,19 @@ int client_is_promised(const struct policy *policy, uint64_t following, uint64_t
 
 /* Returns what is seen at an epoch before there is a reply. */
 uint8_t client_first_seen(const struct watch *watch, uint64_t epoch);
-/* Returns what an epoch shows with a key, of no byte if there is none. */
-uint8_t client_seen_at(const coniks_client *client, uint64_t epoch, struct slice key);
+/* Returns the change that leaves open which key an epoch shows, or NULL. */
+struct change *client_change_around(const struct watch *watch, uint64_t epoch);
+/* Returns what an epoch shows with a key, of no byte if there is none. If a change left that open, the epoch is its last old or its
+ * first new one then. */
+uint8_t client_seen_at(struct watch *watch, uint64_t epoch, struct slice key);
 /* Returns one of `enum coniks_client_seen`. */
 uint32_t client_told(uint8_t seen);
-/* Returns whether an epoch is kept although an auditor's chain covers it. */
-int client_needs(const coniks_client *client, const struct kept *kept);
+/* Makes room for so many changes in all. */
+CONIKS_NODISCARD uint32_t client_reserve_changes(coniks_client *client, size_t count);
+/* Drops the changes that have begun at the oldest kept epoch. */
+void client_settle(coniks_client *client);
+/* Frees the keys and the changes. */
+void client_free_watch(coniks_client *client);
 /* Copies bytes. Returns 0 if there is no memory; the copy of no byte is NULL. */
 CONIKS_NODISCARD int client_copy_slice(const coniks_client_memory *memory, struct slice from, struct slice *to);
 /* Frees a copy. */

@@ -96,7 +96,7 @@ static void fill_found(coniks_client *client, struct slice name, struct kept *ke
     uint64_t epoch = kept->body.epoch;
     memset(found, 0, sizeof *found);
     if (watch->is_set && epoch >= watch->since && client_is_equal(name, client_slice_of(watch->name, watch->name_length))) {
-        kept->seen = client_seen_at(client, epoch, key);
+        kept->seen = client_seen_at(&client->watch, epoch, key);
         found->seen = client_told(kept->seen);
     }
     found->shows = key.length ? CONIKS_CLIENT_KEY : CONIKS_CLIENT_NO_KEY;

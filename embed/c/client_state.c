@@ -3,7 +3,7 @@
 
 #include "client_parts.h"
 
-enum { STATE_VERSION = 1, LEAST_STATE = 70, KEPT_BYTES = CONIKS_ENTRY_BYTES + 8 + 1 };
+enum { STATE_VERSION = 2, LEAST_STATE = 70, KEPT_BYTES = CONIKS_ENTRY_BYTES + 8 + 1, LEAST_CHANGE = 8 + 8 + 4 };
 
 /* Where a state is written to: the next byte. */
 static uint8_t *put(uint8_t *at, const uint8_t *bytes, size_t length)
@@ -28,24 +28,29 @@ static uint8_t *put_key(uint8_t *at, struct slice key)
 
 static size_t watch_length(const struct watch *watch)
 {
-    size_t change = watch->has_change ? 8 + 8 + 4 + watch->new_key.length : 0;
-    return watch->is_set ? 1 + 1 + watch->name_length + 8 + 4 + watch->key.length + change : 1;
+    size_t i, length = 1 + 1 + watch->name_length + 8 + 4 + watch->key.length + 4;
+    for (i = 0; i < watch->count; i++)
+        length += LEAST_CHANGE + watch->changes[i].key.length;
+    return watch->is_set ? length : 1;
 }
 
 static uint8_t *put_watch(uint8_t *at, const struct watch *watch)
 {
-    at = put_number(at, watch->is_set ? (watch->has_change ? 2 : 1) : 0, 1);
+    size_t i;
+    at = put_number(at, watch->is_set ? 1 : 0, 1);
     if (!watch->is_set)
         return at;
     at = put_number(at, watch->name_length, 1);
     at = put(at, watch->name, watch->name_length);
     at = put_number(at, watch->since, 8);
     at = put_key(at, watch->key);
-    if (!watch->has_change)
-        return at;
-    at = put_number(at, watch->after, 8);
-    at = put_number(at, watch->by, 8);
-    return put_key(at, watch->new_key);
+    at = put_number(at, watch->count, 4);
+    for (i = 0; i < watch->count; i++) {
+        at = put_number(at, watch->changes[i].last_old, 8);
+        at = put_number(at, watch->changes[i].first_new, 8);
+        at = put_key(at, watch->changes[i].key);
+    }
+    return at;
 }
 
 uint32_t coniks_client_state(const coniks_client *client, uint8_t *state, size_t room, size_t *length)
@@ -79,16 +84,34 @@ static uint32_t take_key(coniks_client *client, struct reader *it, struct slice 
     return client_copy_slice(&client->memory, taken, key) ? 0 : CONIKS_CLIENT_E_MEMORY;
 }
 
+/* Takes a change, which follows the one before and has another key. There is room for it. */
 static uint32_t take_change(coniks_client *client, struct reader *it)
 {
     struct watch *watch = &client->watch;
+    struct change *change = &watch->changes[watch->count];
+    const struct change *before = watch->count ? change - 1 : NULL;
     uint32_t status;
-    if (!client_take_number(it, 8, &watch->after) || !client_take_number(it, 8, &watch->by))
+    if (!client_take_number(it, 8, &change->last_old) || !client_take_number(it, 8, &change->first_new))
         return CONIKS_CLIENT_E_STATE_FORM;
-    status = take_key(client, it, &watch->new_key);
-    watch->has_change = 1;
-    if (status == 0 && (watch->by <= watch->after || client_is_equal(watch->key, watch->new_key)))
-        status = CONIKS_CLIENT_E_STATE_FORM;
+    status = take_key(client, it, &change->key);
+    if (status)
+        return status;
+    watch->count++;
+    if (change->last_old >= change->first_new || (before && change->last_old < before->first_new))
+        return CONIKS_CLIENT_E_STATE_FORM;
+    return client_is_equal(change->key, before ? before->key : watch->key) ? CONIKS_CLIENT_E_STATE_FORM : 0;
+}
+
+static uint32_t take_changes(coniks_client *client, struct reader *it)
+{
+    uint64_t count;
+    uint32_t status = 0;
+    if (!client_take_number(it, 4, &count) || count > it->left / LEAST_CHANGE)
+        return CONIKS_CLIENT_E_STATE_FORM;
+    if (count)
+        status = client_reserve_changes(client, (size_t)count);
+    for (; count > 0 && status == 0; count--)
+        status = take_change(client, it);
     return status;
 }
 
@@ -98,7 +121,7 @@ static uint32_t take_watch(coniks_client *client, struct reader *it)
     struct slice name;
     uint64_t kind;
     uint32_t status;
-    if (!client_take_number(it, 1, &kind) || kind > 2)
+    if (!client_take_number(it, 1, &kind) || kind > 1)
         return CONIKS_CLIENT_E_STATE_FORM;
     if (kind == 0)
         return 0;
@@ -108,7 +131,7 @@ static uint32_t take_watch(coniks_client *client, struct reader *it)
     watch->name_length = name.length;
     watch->is_set = 1;
     status = take_key(client, it, &watch->key);
-    return status == 0 && kind == 2 ? take_change(client, it) : status;
+    return status ? status : take_changes(client, it);
 }
 
 /* Whether an epoch of a state can have been seen so. */
@@ -116,7 +139,9 @@ static int fits(const struct watch *watch, const struct kept *kept)
 {
     if (!watch->is_set || kept->body.epoch < watch->since)
         return kept->seen == SEEN_UNWATCHED;
-    return kept->seen != SEEN_UNWATCHED && (kept->seen != SEEN_NEW_KEY || watch->has_change);
+    if (kept->seen == SEEN_SAME)
+        return client_change_around(watch, kept->body.epoch) == NULL;
+    return kept->seen >= SEEN_CHANGED && kept->seen <= SEEN_MISSING;
 }
 
 /* Takes the epochs of a state, and verifies none of them. */

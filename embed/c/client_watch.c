@@ -11,8 +11,7 @@ uint8_t client_first_seen(const struct watch *watch, uint64_t epoch)
 uint32_t client_told(uint8_t seen)
 {
     switch (seen) {
-    case SEEN_KEY:
-    case SEEN_NEW_KEY:
+    case SEEN_SAME:
         return CONIKS_CLIENT_SAME;
     case SEEN_CHANGED:
         return CONIKS_CLIENT_KEY_CHANGED;
@@ -25,42 +24,41 @@ uint32_t client_told(uint8_t seen)
     }
 }
 
-/* Whether this was seen at an epoch between two others. */
-static int is_seen_between(const coniks_client *client, uint8_t seen, uint64_t after, uint64_t before)
+/* How many changes have begun at an epoch. */
+static size_t begun_at(const struct watch *watch, uint64_t epoch)
 {
-    size_t i;
-    for (i = client->count; i-- > 0 && client->kept[i].body.epoch > after;) {
-        if (client->kept[i].seen == seen && client->kept[i].body.epoch < before)
-            return 1;
-    }
-    return 0;
+    size_t begun = 0;
+    while (begun < watch->count && watch->changes[begun].first_new <= epoch)
+        begun++;
+    return begun;
+}
+
+/* The key after so many changes. */
+static struct slice key_after(const struct watch *watch, size_t begun)
+{
+    return begun ? watch->changes[begun - 1].key : watch->key;
+}
+
+struct change *client_change_around(const struct watch *watch, uint64_t epoch)
+{
+    size_t begun = begun_at(watch, epoch);
+    return begun < watch->count && watch->changes[begun].last_old < epoch ? &watch->changes[begun] : NULL;
 }
 
 /* A key that changes back is another one. */
-uint8_t client_seen_at(const coniks_client *client, uint64_t epoch, struct slice key)
+uint8_t client_seen_at(struct watch *watch, uint64_t epoch, struct slice key)
 {
-    const struct watch *watch = &client->watch;
-    int is_key = client_is_equal(key, watch->key);
-    if (is_key && !watch->has_change)
-        return SEEN_KEY;
-    if (is_key && epoch < watch->by && !is_seen_between(client, SEEN_NEW_KEY, watch->after, epoch))
-        return SEEN_KEY;
-    /* No epoch from `by` on shows the old key. */
-    if (watch->has_change && client_is_equal(key, watch->new_key) && epoch > watch->after &&
-        !is_seen_between(client, SEEN_KEY, epoch, watch->by))
-        return SEEN_NEW_KEY;
+    struct change *change = client_change_around(watch, epoch);
+    if (client_is_equal(key, key_after(watch, begun_at(watch, epoch)))) {
+        if (change)
+            change->last_old = epoch;
+        return SEEN_SAME;
+    }
+    if (change && client_is_equal(key, change->key)) {
+        change->first_new = epoch;
+        return SEEN_SAME;
+    }
     return key.length ? SEEN_CHANGED : SEEN_ABSENT;
-}
-
-static int is_open(const coniks_client *client)
-{
-    uint64_t epoch = client->count ? client_latest(client)->body.epoch : 0;
-    return client->watch.has_change && epoch < client->watch.by;
-}
-
-int client_needs(const coniks_client *client, const struct kept *kept)
-{
-    return kept->seen == SEEN_MISSING || (kept->seen == SEEN_NEW_KEY && is_open(client));
 }
 
 /* Whether a key that the caller gives can be expected. */
@@ -69,12 +67,17 @@ static int is_expected_key(struct slice key)
     return key.bytes == NULL ? key.length == 0 : key.length > 0 && key.length <= UINT32_MAX;
 }
 
-/* Whether a watch that the caller asks for is the one that the client has. */
+/* Whether a watch that the caller asks for is the one that the client has, by the first key or that of a change. */
 static int is_again(const struct watch *watch, struct slice name, struct slice key, const uint64_t *since)
 {
-    return client_is_equal(name, client_slice_of(watch->name, watch->name_length)) &&
-           (client_is_equal(key, watch->key) || (watch->has_change && client_is_equal(key, watch->new_key))) &&
-           (since == NULL || *since == watch->since);
+    size_t i;
+    if (!client_is_equal(name, client_slice_of(watch->name, watch->name_length)) || (since && *since != watch->since))
+        return 0;
+    for (i = 0; i <= watch->count; i++) {
+        if (client_is_equal(key, key_after(watch, i)))
+            return 1;
+    }
+    return 0;
 }
 
 uint32_t coniks_client_watch(coniks_client *client, const uint8_t *name, size_t name_length, const uint8_t *key,
@@ -103,6 +106,12 @@ uint32_t coniks_client_watch(coniks_client *client, const uint8_t *name, size_t 
     return 0;
 }
 
+/* The latest epoch, 0 without an entry. */
+static uint64_t latest_epoch(const coniks_client *client)
+{
+    return client->count ? client_latest(client)->body.epoch : 0;
+}
+
 /* The error of a change that the caller asks for, 0 if there is none. */
 static uint32_t change_error(const coniks_client *client, struct slice new_key, uint64_t by)
 {
@@ -111,36 +120,72 @@ static uint32_t change_error(const coniks_client *client, struct slice new_key, 
         return CONIKS_CLIENT_E_NOT_WATCHING;
     if (!is_expected_key(new_key))
         return CONIKS_CLIENT_E_EXPECTED_KEY;
-    if (is_open(client))
+    if (begun_at(watch, latest_epoch(client)) < watch->count)
         return CONIKS_CLIENT_E_CHANGE_OPEN;
-    if (client_is_equal(new_key, watch->has_change ? watch->new_key : watch->key))
+    if (client_is_equal(new_key, key_after(watch, watch->count)))
         return CONIKS_CLIENT_E_SAME_KEY;
-    return by <= (client->count ? client_latest(client)->body.epoch : 0) ? CONIKS_CLIENT_E_NOT_LATER : 0;
+    return by <= latest_epoch(client) ? CONIKS_CLIENT_E_NOT_LATER : 0;
 }
 
 uint32_t coniks_client_expect(coniks_client *client, const uint8_t *key, size_t key_length, uint64_t by)
 {
     struct watch *watch = &client->watch;
     uint32_t status = change_error(client, client_slice_of(key, key_length), by);
-    struct slice copy;
-    size_t i;
+    struct change change;
+    if (status == 0)
+        status = client_reserve_changes(client, watch->count + 1);
     if (status)
         return status;
-    if (!client_copy_slice(&client->memory, client_slice_of(key, key_length), &copy))
+    change.last_old = latest_epoch(client);
+    change.first_new = by;
+    if (!client_copy_slice(&client->memory, client_slice_of(key, key_length), &change.key))
         return CONIKS_CLIENT_E_MEMORY;
-    if (watch->has_change) {
-        client_free_slice(&client->memory, &watch->key);
-        watch->key = watch->new_key;
-    }
-    for (i = 0; i < client->count; i++) {
-        if (client->kept[i].seen == SEEN_NEW_KEY)
-            client->kept[i].seen = SEEN_KEY;
-    }
-    watch->new_key = copy;
-    watch->after = client->count ? client_latest(client)->body.epoch : 0;
-    watch->by = by;
-    watch->has_change = 1;
+    watch->changes[watch->count] = change;
+    watch->count++;
     return 0;
+}
+
+uint32_t client_reserve_changes(coniks_client *client, size_t count)
+{
+    const coniks_client_memory *memory = &client->memory;
+    struct watch *watch = &client->watch;
+    const size_t most = UINT32_MAX < SIZE_MAX / sizeof(struct change) ? UINT32_MAX : SIZE_MAX / sizeof(struct change);
+    struct change *changes = count <= most ? memory->allocate(memory->context, count * sizeof *changes) : NULL;
+    if (changes == NULL)
+        return CONIKS_CLIENT_E_MEMORY;
+    if (watch->changes) {
+        memcpy(changes, watch->changes, watch->count * sizeof *changes);
+        memory->release(memory->context, watch->changes);
+    }
+    watch->changes = changes;
+    return 0;
+}
+
+/* Drops so many changes, of which the last one's key becomes the first key. */
+static void drop_changes(coniks_client *client, size_t count)
+{
+    struct watch *watch = &client->watch;
+    size_t i;
+    for (i = 0; i < count; i++) {
+        client_free_slice(&client->memory, &watch->key);
+        watch->key = watch->changes[i].key;
+    }
+    watch->count -= count;
+    if (count)
+        memmove(watch->changes, watch->changes + count, watch->count * sizeof *watch->changes);
+}
+
+void client_settle(coniks_client *client)
+{
+    drop_changes(client, begun_at(&client->watch, client->kept[0].body.epoch));
+}
+
+void client_free_watch(coniks_client *client)
+{
+    drop_changes(client, client->watch.count);
+    client_free_slice(&client->memory, &client->watch.key);
+    if (client->watch.changes)
+        client->memory.release(client->memory.context, client->watch.changes);
 }
 
 size_t coniks_client_missing(const coniks_client *client, uint64_t *epochs, size_t room)

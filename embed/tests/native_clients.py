@@ -6,6 +6,7 @@ import json
 from pathlib import Path
 from typing import Any, Union
 
+import client_alarms
 import tools
 from running import ARCHIVE, EMBED, INCLUDE, TOP, run
 
@@ -30,7 +31,7 @@ def compiled(room: Path, name: str, *more: str) -> Path:
 def looked_up() -> list[tuple[dict[str, Any], dict[str, Any]]]:
     """Cases of which the second step is a lookup that is accepted, with what it gives: a key, and none."""
     found: dict[bool, tuple[dict[str, Any], dict[str, Any]]] = {}
-    for file in sorted(CASES.glob("*.jsonl")):
+    for file in sorted(it for it in CASES.glob("*.jsonl") if it.stem not in client_alarms.FILES):
         for case in map(json.loads, file.read_text("utf-8").splitlines()):
             kinds, gives = [it["do"] for it in case["steps"][:2]], case["gives"]["steps"][1:2]
             if kinds == ["feed", "lookup"] and gives and "first_seen" in gives[0] and not case.get("state"):

@@ -18,7 +18,8 @@ def test_build_without_rt(tmp_path: Path) -> None:
     """Without `rt` the module isn't built, and the error says what is missing."""
     shutil.copytree(TOP / "web", tmp_path / "web", ignore=shutil.ignore_patterns("out"))
     (tmp_path / "scripts").mkdir()
-    shutil.copy(TOP / "scripts/built", tmp_path / "scripts")
+    for it in ("built", "need-rt"):
+        shutil.copy(TOP / "scripts" / it, tmp_path / "scripts")
     kept = [it for it in os.environ["PATH"].split(os.pathsep) if not (Path(it) / "rt").exists()]
     ran = run(sys.executable, tmp_path / "web/build", env=os.environ | {"PATH": os.pathsep.join(kept)})
     said = ran.stderr.decode()

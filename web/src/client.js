@@ -10,7 +10,7 @@ import { Policy } from "./policy.js";
 import { indicesOf, signaturesOf } from "./schemes.js";
 import { sha256 } from "./sha256.js";
 import { TICKS, bytes, long, nameBytes, ticks, unsigned } from "./values.js";
-import { TOLD, changed, countUpTo, expectedKey, firstSeen, fits, isMissing, needs, readWatch, seenAt, settle, watchBytes } from "./watch.js";
+import { TOLD, changed, countUpTo, expectedKey, expects, firstSeen, fits, isMissing, readWatch, seenAt, settled, watchBytes } from "./watch.js";
 
 /**
  * An accepted entry with the parts of its body, its link, the Unix time at which it was accepted, and what was seen of the watched name.
@@ -22,7 +22,7 @@ import { TOLD, changed, countUpTo, expectedKey, firstSeen, fits, isMissing, need
  * @typedef {import("./messages.js").Evidence} Evidence
  */
 
-const [ENTRY, BODY, KEPT, FIXED] = [209, 145, 218, 70];
+const [ENTRY, BODY, KEPT, FIXED, STATE_VERSION] = [209, 145, 218, 70, 2];
 // Statuses of coniks.h.
 const [GOOD, ABSENT, TOO_DEEP, SIGNATURE, ENTRY_LENGTH] = [0, 1, 2, 40, 48];
 
@@ -258,15 +258,16 @@ export class Client {
   }
 
   /**
-   * Drops the entries before that of an auditor's head, if it is one of this chain, but none that the watched name needs.
+   * Drops the entries before that of an auditor's head, if it is one of this chain, but none from the first missing epoch on. Changes
+   * of the watched key that have begun at the oldest entry that is left are dropped too.
    * @param {any} head
    */
   cover(head) {
     const given = headOf(head);
     const found = this.compare(given);
     if (found === "equal") {
-      const latest = this.#kept[this.#kept.length - 1].epoch;
-      this.#kept.splice(0, this.#kept.findIndex((it) => it.epoch === given.epoch || needs(this.#watch, it, latest)));
+      this.#kept.splice(0, this.#kept.findIndex((it) => it.epoch === given.epoch || isMissing(it)));
+      if (this.#watch !== null) this.#watch = settled(this.#watch, this.#kept[0].epoch);
     }
     return found;
   }
@@ -353,7 +354,7 @@ export class Client {
   #found(name, kept, key, now) {
     const watch = this.#watch;
     const isWatched = watch !== null && isSame(name, watch.name) && kept.epoch >= watch.since;
-    if (isWatched) kept.seen = seenAt(watch, kept.epoch, key ?? new Uint8Array(0), this.#kept);
+    if (isWatched) kept.seen = seenAt(watch, kept.epoch, key ?? new Uint8Array(0));
     const age = this.#age(kept, now);
     const [seen, seconds] = [isWatched ? TOLD[kept.seen] : null, age === null ? null : Number(age) / Number(TICKS)];
     return Object.freeze({ epoch: kept.epoch, key, seen, age: seconds, firstSeen: kept.time });
@@ -389,15 +390,14 @@ export class Client {
    */
   watch(name, key, since = null) {
     const first = since === null ? this.#kept.at(-1)?.epoch ?? 1n : unsigned(since, 64, "the first epoch");
-    const made = { name: nameBytes(name), since: first, key: expectedKey(key), change: null };
+    const made = { name: nameBytes(name), since: first, key: expectedKey(key), changes: [] };
     if (made.name.length < 1 || made.name.length > 255) throw new RangeError("a name has 1 to 255 bytes");
     const watch = this.#watch;
     if (watch === null) {
       for (const it of this.#kept) it.seen = firstSeen(made, it.epoch);
       this.#watch = made;
     } else {
-      const isExpected = isSame(made.key, watch.key) || (watch.change !== null && isSame(made.key, watch.change.key));
-      if (!isExpected || !isSame(made.name, watch.name) || (since !== null && first !== watch.since)) {
+      if (!expects(watch, made.key) || !isSame(made.name, watch.name) || (since !== null && first !== watch.since)) {
         throw new RangeError("this client watches another name or key: use `expect`, or make another client");
       }
     }
@@ -409,9 +409,7 @@ export class Client {
    */
   expect(key, by) {
     if (this.#watch === null) throw new RangeError("no name is watched: call `watch` first");
-    const watch = changed(this.#watch, expectedKey(key), this.#kept.at(-1)?.epoch ?? 0n, unsigned(by, 64, "the epoch"));
-    settle(this.#kept);
-    this.#watch = watch;
+    this.#watch = changed(this.#watch, expectedKey(key), this.#kept.at(-1)?.epoch ?? 0n, unsigned(by, 64, "the epoch"));
   }
 
   /** The epochs that must show the watched name, and of which no reply was accepted. */
@@ -441,7 +439,7 @@ export class Client {
   get state() {
     const [watch, size] = [watchBytes(this.#watch), KEPT * this.#kept.length];
     const state = new Uint8Array(FIXED - 1 + size + watch.length);
-    state.set(joined(Uint8Array.of(1), this.#digest, bigEndian(this.#kept.length, 4)));
+    state.set(joined(Uint8Array.of(STATE_VERSION), this.#digest, bigEndian(this.#kept.length, 4)));
     this.#kept.forEach((it, i) => state.set(joined(it.entry, long(it.time), Uint8Array.of(it.seen)), 37 + KEPT * i));
     state.set(watch, 37 + size);
     state.set(sha256(state.subarray(0, -32)), state.length - 32);
@@ -452,7 +450,7 @@ export class Client {
   async #resume(state) {
     const whole = state.subarray(0, -32);
     if (state.length < FIXED) throw new Refusal("StateLength");
-    if (state[0] !== 1) throw new Refusal("StateVersion");
+    if (state[0] !== STATE_VERSION) throw new Refusal("StateVersion");
     if (!isSame(sha256(whole), state.subarray(-32))) throw new Refusal("StateDamaged");
     if (!isSame(state.subarray(1, 33), this.#digest)) throw new Refusal("StatePolicy");
     const it = new Reader(whole, "StateForm", 33);

@@ -277,6 +277,9 @@ export class Follower {
       return { sealed, kept, policy, auditors: await auditorsOf(kept.auditors, kept.faulty), client };
     } catch (error) {
       if (error instanceof Unsupported) throw error;
+      if (error instanceof Refusal && error.why === "StateVersion") {
+        throw new Unusable("what this browser has stored is of another version of this page: reload the page, or forget it and begin again");
+      }
       throw new Unusable(`what this browser has stored was changed (${/** @type {Error} */ (error).message}): forget it, and begin again`);
     }
   }

@@ -48,7 +48,7 @@ const CAUSES = {
   Future: [86, "the latest epoch has not begun by the policy's clock: see whether the clock is right, or alarm"],
   VrfProof: [87, `the VRF proof is not one of this name: ${AGAIN}`],
   StateLength: [96, `a state has at least 70 bytes: ${RESTORE}`],
-  StateVersion: [97, `the state has another version than 1: ${LATER}`],
+  StateVersion: [97, "the state has another version than 2: take the package that wrote it, or start anew with an auditor's head"],
   StateDamaged: [98, `the state was changed: ${RESTORE}`],
   StatePolicy: [99, "the state is that of another directory: take the one of this policy"],
   StateForm: [100, `the state is not one of docs/FORMATS.md: ${RESTORE}`],

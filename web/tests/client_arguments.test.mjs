@@ -25,7 +25,7 @@ function example(after) {
 const policy = readPolicy(textBytes(`${example("The keys of this example are").join("\n")}\n`));
 const reply = data(example("The reply for alice at epoch 2").join(""));
 const history = data(example("The history of alice at epochs 1 and 2").join(""));
-const state = data(example("The state of a client that watches alice").join(""));
+const state = data(example("In version `02`, the state of a client that watches alice").join(""));
 const entries = [state.slice(37, 246), state.slice(255, 464)];
 const start = Number(policy.epochStart);
 const clock = () => start + 3600 + 60;
@@ -67,6 +67,11 @@ test("the examples of docs/FORMATS.md", async () => {
   const found = await timed.history("alice", history);
   same("the history", found.map((it) => [it.epoch, it.seen, it.age]), [[1, "same", 3660], [2, "same", 60]]);
   same("the state once more", (await begun({ state })).state, state);
+  const expecting = await begun({ state });
+  expecting.expect(textBytes("n"), 5);
+  const changed = expecting.state;
+  same("a change and the digest in the state", changed.subarray(473), data(example("Then it expects the key `n` by epoch 5").join("")));
+  same("the state with a change once more", (await begun({ state: changed })).state, changed);
 });
 
 test("the policy that promises records", async () => {
@@ -238,12 +243,13 @@ test("what claims to be long", async () => {
   for (const [what, given] of [
     ["2^32 - 1 epochs", renewed(...header, data("00"))],
     ["a key of 2^32 - 1 bytes", renewed(chain, data("0105616c6963650000000000000001ffffffff"), key)],
-    ["a new key of 2^32 - 1 bytes", renewed(chain, data("0205616c6963650000000000000001000000016b00000000000000020000000000000003ffffffff"))],
-    ["an empty name", renewed(chain, data("0100000000000000000100000000"))],
+    ["2^32 - 1 changes", renewed(chain, data("0105616c6963650000000000000001000000016bffffffff00000000000000020000000000000003000000016e"))],
+    ["a new key of 2^32 - 1 bytes", renewed(chain, data("0105616c6963650000000000000001000000016b0000000100000000000000020000000000000003ffffffff"))],
+    ["an empty name", renewed(chain, data("010000000000000000010000000000000000"))],
     ["bytes that follow", renewed(chain, data("0000"))],
-    ["a new key and no change", seenAs("02")],
     ["a watched epoch that is not watched", seenAs("00")],
-    ["an unknown number of what was seen", seenAs("06")],
+    ["an unknown number of what was seen", seenAs("02")],
+    ["a number of what was seen that is too high", seenAs("06")],
     ["no watch", renewed(chain)],
   ]) await throwing(what, () => begun({ state: given }), "StateForm");
   const long = (size, digits) => Buffer.concat([reply.subarray(0, 210), data(digits), Buffer.alloc(size)]);
@@ -264,7 +270,7 @@ test("what claims to be long", async () => {
 
 /** The first of several errors of a state, in the order of docs/FORMATS.md. */
 test("the first of several errors of a state", async () => {
-  const [other, version, policyOf] = [data("02"), state.subarray(0, 1), state.subarray(1, 33)];
+  const [other, version, policyOf] = [data("01"), state.subarray(0, 1), state.subarray(1, 33)];
   const count = data("ffffffff");
   for (const [what, wanted, given] of [
     ["length and version", "StateLength", new Uint8Array(69)],

@@ -102,6 +102,7 @@ const (
 	publish     = ": keep the evidence, and publish it"
 	fromPolicy  = ": take the one of the policy document"
 	laterClient = ": take a later version of this package"
+	otherClient = ": take the package that wrote it, or start anew with an auditor's head"
 )
 
 // causes are the names of docs/FORMATS.md, and the texts of those causes for which the C library has none.
@@ -153,7 +154,7 @@ var causes = map[Cause]struct{ name, text string }{
 	Future:          {"Future", "the latest epoch has not begun by the policy's clock: check the clock, or alarm"},
 	VRFProof:        {"VrfProof", "the VRF proof is not one of this name" + askAgain},
 	StateLength:     {"StateLength", "a state has at least 70 bytes" + restore},
-	StateVersion:    {"StateVersion", "the state has another version than 1" + laterClient},
+	StateVersion:    {"StateVersion", "the state has another version than 2" + otherClient},
 	StateDamaged:    {"StateDamaged", "the state was changed" + restore},
 	StatePolicy:     {"StatePolicy", "the state is that of another directory: take the one of this policy"},
 	StateForm:       {"StateForm", "the state is not one of docs/FORMATS.md" + restore},

@@ -39,6 +39,14 @@ func TestExamplesOfFormats(t *testing.T) {
 	if err != nil || !bytes.Equal(again.State(), it.State()) || fmt.Sprint(again.Missing()) != "[1]" {
 		t.Fatal(err)
 	}
+	good(t, it.Expect([]byte("n"), 5))
+	if watch := hex.EncodeToString(it.State()[37+2*218:]); watch != wanted.Watch {
+		t.Error(watch)
+	}
+	changed, err := Resume(settings, it.State())
+	if err != nil || !bytes.Equal(changed.State(), it.State()) {
+		t.Error(err)
+	}
 	all, err := again.History("alice", unhex(t, wanted.History))
 	if err != nil || len(all) != 2 || all[0].Epoch != 1 || string(all[0].Key) != "k" || all[1].Seen != Same || len(again.Missing()) > 0 {
 		t.Error(all, err)

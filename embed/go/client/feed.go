@@ -47,7 +47,7 @@ func (it *Client) Feed(entries [][]byte) ([]Step, error) {
 		if err != nil {
 			return nil, err
 		}
-		steps = append(steps, Step{next.body.Epoch, next.seen.told()})
+		steps = append(steps, Step{next.body.Epoch, next.seen})
 	}
 	return steps, nil
 }
@@ -182,7 +182,7 @@ func (it chain) compare(head coniks.Head) Comparison {
 }
 
 // Cover drops the entries before that of an auditor's head, if Compare finds it equal: the auditor's chain has them. Epochs that are
-// missing stay, with what follows them, and so do those of a change that is open.
+// missing stay, with what follows them.
 func (it *Client) Cover(head coniks.Head) Comparison {
 	it.mutex.Lock()
 	defer it.mutex.Unlock()
@@ -190,11 +190,14 @@ func (it *Client) Cover(head coniks.Head) Comparison {
 	if found != Equal {
 		return found
 	}
-	latest, first := it.chain.latest().body.Epoch, 0
-	for first < len(it.chain) && it.chain[first].body.Epoch < head.Epoch && !it.watch.needs(it.chain[first], latest) {
+	first := 0
+	for it.chain[first].body.Epoch < head.Epoch && it.chain[first].seen != Missing {
 		first++
 	}
 	it.chain = append(chain(nil), it.chain[first:]...)
+	if it.watch != nil {
+		it.watch.settle(it.chain[0].body.Epoch)
+	}
 	return found
 }
 

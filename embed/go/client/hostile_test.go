@@ -51,6 +51,13 @@ func TestHostileLengths(t *testing.T) {
 	state := made.State()
 	front, most := state[:33], []byte{255, 255, 255, 255}
 	watch := bytes.Join([][]byte{{1, 1, 'a'}, make([]byte, 8)}, nil)
+	// Of no epoch, with so many changes after no key.
+	watching := func(count byte, changes ...[]byte) []byte {
+		return renewed(front, make([]byte, 4), watch, make([]byte, 7), []byte{count}, bytes.Join(changes, nil))
+	}
+	changed := func(lastOld, firstNew uint64, key string) []byte {
+		return bytes.Join([][]byte{number(lastOld, 8), number(firstNew, 8), number(uint64(len(key)), 4), []byte(key)}, nil)
+	}
 	states := map[string][]byte{
 		"2^32 - 1 epochs":           renewed(front, most, state[37:]),
 		"2^31 epochs":               renewed(front, []byte{128, 0, 0, 0}, state[37:]),
@@ -59,12 +66,21 @@ func TestHostileLengths(t *testing.T) {
 		"a name of 255 bytes":       renewed(front, make([]byte, 4), []byte{1, 255}, make([]byte, 64)),
 		"a name of no byte":         renewed(front, make([]byte, 4), []byte{1, 0}, make([]byte, 12)),
 		"a watch that is cut":       renewed(front, make([]byte, 4), watch[:5]),
-		"a change that is cut":      renewed(front, make([]byte, 4), []byte{2}, watch[1:], make([]byte, 4), make([]byte, 15)),
-		"a change to the same key":  renewed(front, make([]byte, 4), []byte{2}, watch[1:], make([]byte, 19), []byte{1}, make([]byte, 4)),
-		"a change by its beginning": renewed(front, make([]byte, 4), []byte{2}, watch[1:], make([]byte, 4), make([]byte, 16), []byte{0, 0, 0, 1, 7}),
-		"a kind of 3":               renewed(front, make([]byte, 4), []byte{3}, watch[1:], make([]byte, 4)),
+		"2^32 - 1 changes":          renewed(front, make([]byte, 4), watch, make([]byte, 4), most, changed(0, 1, "A")),
+		"a change too many":         watching(2, changed(0, 1, "A")),
+		"a change too few":          watching(0, changed(0, 1, "A")),
+		"a change that is cut":      watching(1, make([]byte, 15)),
+		"a key that is cut":         watching(1, changed(0, 1, "A")[:20]),
+		"a change to the same key":  watching(1, changed(0, 1, "")),
+		"a change without an epoch": watching(1, changed(7, 7, "A")),
+		"a change back to its key":  watching(2, changed(0, 1, "A"), changed(1, 2, "A")),
+		"a change within another":   watching(2, changed(0, 5, "A"), changed(4, 6, "B")),
+		"a kind of 2":               renewed(front, make([]byte, 4), []byte{2}, watch[1:], make([]byte, 8)),
 		"bytes after it":            renewed(front, make([]byte, 4), []byte{0, 0}),
-		"a seen of 6":               renewed(state[:37+217], []byte{6}, []byte{0}),
+		"a seen of 2":               renewed(state[:37+217], []byte{2}, watch, make([]byte, 8)),
+		"a seen of 6":               renewed(state[:37+217], []byte{6}, watch, make([]byte, 8)),
+		"a seen of 0, watched":      renewed(state[:37+217], []byte{0}, watch, make([]byte, 8)),
+		"a seen of 1 in a change":   renewed(state[:37+217], []byte{1}, watch, make([]byte, 7), []byte{1}, changed(0, 2, "A")),
 		"a seen without a watch":    renewed(state[:37+217], []byte{5}, []byte{0}),
 	}
 	for what, state := range states {
@@ -77,6 +93,8 @@ func TestHostileLengths(t *testing.T) {
 			t.Error(what, size)
 		}
 	}
+	_, err := Resume(settings, watching(2, changed(0, 5, "A"), changed(5, 6, "")))
+	good(t, err)
 	entry := it.entries[1]
 	replies := map[string]struct {
 		reply []byte

@@ -13,7 +13,7 @@ type kept struct {
 	body      coniks.Body
 	link      [32]byte
 	firstSeen uint64
-	seen      seen
+	seen      Watched
 }
 
 // keptOf returns an entry of 209 bytes as it is kept.

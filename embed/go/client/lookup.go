@@ -169,8 +169,8 @@ func keyOf(name string, kept *kept, index [32]byte, proof []byte) ([]byte, error
 func (it *Client) found(name string, one shown, now time.Time) Found {
 	epoch, seen := one.kept.body.Epoch, Unwatched
 	if it.watch != nil && name == it.watch.name && epoch >= it.watch.since {
-		one.kept.seen = it.watch.seen(epoch, one.key, it.chain)
-		seen = one.kept.seen.told()
+		seen = it.watch.see(epoch, one.key)
+		one.kept.seen = seen
 	}
 	return Found{epoch, one.key, seen, it.clock.told(epoch, now), one.kept.firstSeen}
 }

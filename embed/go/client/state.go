@@ -8,8 +8,13 @@ import (
 	"example.org/coniks"
 )
 
+const stateVersion = 2
+
 // fixedBytes is the length of a state without epochs and watch.
 const fixedBytes = 1 + 32 + 4 + 1 + sha256.Size
+
+// seenNumbers are the numbers in a state of what an epoch shows.
+var seenNumbers = [...]byte{Unwatched: 0, Same: 1, Changed: 3, Absent: 4, Missing: 5}
 
 // State returns all that the client keeps, for Resume: 70 bytes, 218 for each epoch, and those of the watched name. Store it after
 // each call that may change it, also after an error: Feed keeps the entries before the one that it refuses. A client that goes on
@@ -17,11 +22,11 @@ const fixedBytes = 1 + 32 + 4 + 1 + sha256.Size
 func (it *Client) State() []byte {
 	it.mutex.Lock()
 	defer it.mutex.Unlock()
-	out := append([]byte{version}, it.digest[:]...)
+	out := append([]byte{stateVersion}, it.digest[:]...)
 	out = binary.BigEndian.AppendUint32(out, uint32(len(it.chain)))
 	for _, kept := range it.chain {
 		out = append(out, kept.entry...)
-		out = append(binary.BigEndian.AppendUint64(out, kept.firstSeen), byte(kept.seen))
+		out = append(binary.BigEndian.AppendUint64(out, kept.firstSeen), seenNumbers[kept.seen])
 	}
 	out = it.watch.append(out)
 	digest := sha256.Sum256(out)
@@ -33,17 +38,14 @@ func (it *watch) append(out []byte) []byte {
 	if it == nil {
 		return append(out, 0)
 	}
-	kind := byte(1)
-	if it.change != nil {
-		kind = 2
-	}
-	out = append(append(out, kind, byte(len(it.name))), it.name...)
+	out = append(append(out, 1, byte(len(it.name))), it.name...)
 	out = appendKey(binary.BigEndian.AppendUint64(out, it.since), it.key)
-	if it.change == nil {
-		return out
+	out = binary.BigEndian.AppendUint32(out, uint32(len(it.changes)))
+	for _, change := range it.changes {
+		out = binary.BigEndian.AppendUint64(out, change.lastOld)
+		out = appendKey(binary.BigEndian.AppendUint64(out, change.firstNew), change.key)
 	}
-	out = binary.BigEndian.AppendUint64(out, it.change.after)
-	return appendKey(binary.BigEndian.AppendUint64(out, it.change.by), it.change.key)
+	return out
 }
 
 func appendKey(out, key []byte) []byte {
@@ -57,7 +59,7 @@ func (it *Client) resume(state []byte) error {
 	}
 	whole, digest := state[:len(state)-sha256.Size], state[len(state)-sha256.Size:]
 	switch {
-	case whole[0] != version:
+	case whole[0] != stateVersion:
 		return refusal(StateVersion)
 	case sha256.Sum256(whole) != *(*[sha256.Size]byte)(digest):
 		return refusal(StateDamaged)
@@ -111,21 +113,22 @@ func readKept(rest *reader) (*kept, bool) {
 	if isThere {
 		number, isThere = rest.number(1)
 	}
-	if !isThere || number > uint64(seenMissing) {
+	seen := bytes.IndexByte(seenNumbers[:], byte(number))
+	if !isThere || seen < 0 {
 		return nil, false
 	}
 	next, err := keptOf(copied(entry), firstSeen)
 	if err != nil {
 		return nil, false
 	}
-	next.seen = seen(number)
+	next.seen = Watched(seen)
 	return next, true
 }
 
 // readWatch takes the watch of a state, nil if no name is watched.
 func readWatch(rest *reader) (*watch, bool) {
 	kind, isThere := rest.number(1)
-	if !isThere || kind > 2 {
+	if !isThere || kind > 1 {
 		return nil, false
 	}
 	if kind == 0 {
@@ -140,27 +143,37 @@ func readWatch(rest *reader) (*watch, bool) {
 	if isThere {
 		it.key, isThere = readKey(rest)
 	}
-	if isThere && kind == 2 {
-		it.change, isThere = readChange(rest)
+	if isThere {
+		it.changes, isThere = readChanges(rest)
 	}
-	if !isThere || len(name) == 0 || it.change != nil && bytes.Equal(it.change.key, it.key) {
+	if !isThere || len(name) == 0 || !it.isInOrder() {
 		return nil, false
 	}
 	return &it, true
 }
 
-// readChange takes the change of a watch in a state.
-func readChange(rest *reader) (*change, bool) {
-	var it change
-	var isThere bool
-	if it.after, isThere = rest.number(8); !isThere {
-		return nil, false
+// readChanges takes the changes of a watch in a state.
+func readChanges(rest *reader) (changes []change, isThere bool) {
+	count, isThere := rest.number(4)
+	// The number may be too great for what follows, so no memory is reserved for it.
+	for ; count > 0 && isThere; count-- {
+		var next change
+		next, isThere = readChange(rest)
+		changes = append(changes, next)
 	}
-	if it.by, isThere = rest.number(8); !isThere {
-		return nil, false
+	return changes, isThere
+}
+
+// readChange takes the next change of a watch in a state.
+func readChange(rest *reader) (it change, isThere bool) {
+	it.lastOld, isThere = rest.number(8)
+	if isThere {
+		it.firstNew, isThere = rest.number(8)
 	}
-	it.key, isThere = readKey(rest)
-	return &it, isThere && it.after < it.by
+	if isThere {
+		it.key, isThere = readKey(rest)
+	}
+	return it, isThere
 }
 
 // readKey takes a key of a state, nil if its length is 0.

@@ -4,6 +4,7 @@ import (
 	"bytes"
 	"errors"
 	"fmt"
+	"sort"
 )
 
 const longestName = 255
@@ -32,37 +33,20 @@ func (it Watched) String() string {
 	return fmt.Sprintf("Watched(%d)", uint8(it))
 }
 
-// seen is a Watched by its number in a state. The key and the new key of an expected change are told apart.
-type seen uint8
-
-const (
-	seenNothing seen = iota
-	seenKey
-	seenNewKey
-	seenChanged
-	seenAbsent
-	seenMissing
-)
-
-// told is what the client's caller is told.
-func (it seen) told() Watched {
-	return [...]Watched{Unwatched, Same, Same, Changed, Absent, Missing}[it]
-}
-
-// change is a change of the watched key that its owner makes: epochs after `after` may show the new key, and those from `by` on
-// must.
+// change is a change of the watched key that its owner makes: epochs up to lastOld show the key before it, and those from firstNew
+// on the new key. An epoch between them may show either, and becomes lastOld or firstNew then.
 type change struct {
-	after, by uint64
-	key       []byte
+	lastOld, firstNew uint64
+	key               []byte
 }
 
-// watch is the watched name: the key that epochs from `since` on must show, nil if it must be bound to none, and a change of it, nil
-// if there was none. A watch is not changed but replaced.
+// watch is the watched name: the key that epochs from `since` on must show before the first change, nil if it must be bound to none,
+// and the changes in their order.
 type watch struct {
-	name   string
-	since  uint64
-	key    []byte
-	change *change
+	name    string
+	since   uint64
+	key     []byte
+	changes []change
 }
 
 // newWatch returns a watch of a name that its caller gives.
@@ -84,86 +68,104 @@ func checkExpected(key []byte) error {
 	return nil
 }
 
-// expects reports whether a key is one of those that may be shown. No byte stands for no key.
+// expects reports whether a key is the first one or that of a change. No byte stands for no key.
 func (it *watch) expects(key []byte) bool {
-	return bytes.Equal(key, it.key) || it.change != nil && bytes.Equal(key, it.change.key)
-}
-
-// first is what is seen at an epoch before there is a reply.
-func (it *watch) first(epoch uint64) seen {
-	if it == nil || epoch < it.since {
-		return seenNothing
-	}
-	return seenMissing
-}
-
-// seen returns what an epoch shows with a key, nil for none. A key that changes back is another one.
-func (it *watch) seen(epoch uint64, key []byte, entries chain) seen {
-	change := it.change
-	if bytes.Equal(key, it.key) {
-		if change == nil || epoch < change.by && !entries.anySeen(seenNewKey, change.after, epoch) {
-			return seenKey
-		}
-	}
-	if change != nil && bytes.Equal(key, change.key) && epoch > change.after {
-		// No epoch from `by` on shows the old key.
-		if epoch >= change.by || !entries.anySeen(seenKey, epoch, change.by) {
-			return seenNewKey
-		}
-	}
-	if key == nil {
-		return seenAbsent
-	}
-	return seenChanged
-}
-
-// anySeen reports whether something was seen at an epoch after one number and before another.
-func (it chain) anySeen(what seen, after, before uint64) bool {
-	for _, kept := range it[it.after(after):] {
-		if kept.body.Epoch >= before {
-			break
-		}
-		if kept.seen == what {
+	for begun := 0; begun <= len(it.changes); begun++ {
+		if bytes.Equal(key, it.keyAfter(begun)) {
 			return true
 		}
 	}
 	return false
 }
 
-// changed returns this watch with a change that is expected, after the latest epoch. It returns an error while another one is open.
-func (it *watch) changed(key []byte, latest, by uint64) (*watch, error) {
-	if it.isOpen(latest) {
-		return nil, fmt.Errorf("another change is expected by epoch %d: expect the next one after it", it.change.by)
-	}
-	before := it.key
-	if it.change != nil {
-		before = it.change.key
-	}
-	if bytes.Equal(key, before) {
-		return nil, errors.New("the new key is the one that is expected already")
-	}
-	if by <= latest {
-		return nil, fmt.Errorf("epoch %d is in the chain: expect the new key by a later one", latest)
-	}
-	return &watch{it.name, it.since, before, &change{latest, by, copied(key)}}, nil
+// begun returns the number of changes whose firstNew is an epoch or an earlier one.
+func (it *watch) begun(epoch uint64) int {
+	return sort.Search(len(it.changes), func(at int) bool { return it.changes[at].firstNew > epoch })
 }
 
-// isOpen reports whether epochs after the latest one may still show the key before the change.
-func (it *watch) isOpen(latest uint64) bool {
-	return it != nil && it.change != nil && latest < it.change.by
+// keyAfter returns the key after the first changes.
+func (it *watch) keyAfter(begun int) []byte {
+	if begun == 0 {
+		return it.key
+	}
+	return it.changes[begun-1].key
 }
 
-// needs reports whether an epoch is kept although an auditor's chain covers it.
-func (it *watch) needs(kept *kept, latest uint64) bool {
-	return kept.seen == seenMissing || it.isOpen(latest) && kept.seen == seenNewKey
+// between returns the change whose lastOld is before an epoch and whose firstNew is after it, nil if there is none.
+func (it *watch) between(epoch uint64) *change {
+	if begun := it.begun(epoch); begun < len(it.changes) && it.changes[begun].lastOld < epoch {
+		return &it.changes[begun]
+	}
+	return nil
+}
+
+// first is what is seen at an epoch before there is a reply.
+func (it *watch) first(epoch uint64) Watched {
+	if it == nil || epoch < it.since {
+		return Unwatched
+	}
+	return Missing
+}
+
+// see returns what a watched epoch shows with a key, nil for none, and marks it in the change that it is between. A key that changes
+// back is another one.
+func (it *watch) see(epoch uint64, key []byte) Watched {
+	isKey, between := bytes.Equal(key, it.keyAfter(it.begun(epoch))), it.between(epoch)
+	isNew := between != nil && bytes.Equal(key, between.key)
+	switch {
+	case isKey && between != nil:
+		between.lastOld = epoch
+	case isNew:
+		between.firstNew = epoch
+	}
+	switch {
+	case isKey || isNew:
+		return Same
+	case key == nil:
+		return Absent
+	}
+	return Changed
+}
+
+// expect adds a change, after the latest epoch. It returns an error while another one is open.
+func (it *watch) expect(key []byte, latest, by uint64) error {
+	begun := it.begun(latest)
+	switch {
+	case begun < len(it.changes):
+		return fmt.Errorf("another change is expected by epoch %d: expect the next one after it", it.changes[begun].firstNew)
+	case bytes.Equal(key, it.keyAfter(begun)):
+		return errors.New("the new key is the one that is expected already")
+	case by <= latest:
+		return fmt.Errorf("epoch %d is in the chain: expect the new key by a later one", latest)
+	}
+	it.changes = append(it.changes, change{latest, by, copied(key)})
+	return nil
+}
+
+// settle drops the changes that no epoch from the oldest kept one on needs. The key after them becomes the first one.
+func (it *watch) settle(oldest uint64) {
+	begun := it.begun(oldest)
+	it.key, it.changes = it.keyAfter(begun), append([]change(nil), it.changes[begun:]...)
+}
+
+// isInOrder reports whether each change begins when the one before it is over, and changes the key.
+func (it *watch) isInOrder() bool {
+	from := uint64(0)
+	for at, change := range it.changes {
+		if change.lastOld < from || change.firstNew <= change.lastOld || bytes.Equal(change.key, it.keyAfter(at)) {
+			return false
+		}
+		from = change.firstNew
+	}
+	return true
 }
 
 // fits reports whether an epoch of a state can have been seen so. The watch is nil if no name is watched.
 func (it *watch) fits(kept *kept) bool {
 	if it == nil || kept.body.Epoch < it.since {
-		return kept.seen == seenNothing
+		return kept.seen == Unwatched
 	}
-	return kept.seen != seenNothing && (kept.seen != seenNewKey || it.change != nil)
+	return kept.seen != Unwatched && (kept.seen != Same || it.between(kept.body.Epoch) == nil)
 }
 
 // Watch watches the client's own name: each epoch from the latest on, from 1 on without an entry, must show the key, or none if it is
@@ -203,7 +205,8 @@ func (it *Client) watchFrom(name string, key []byte, since *uint64) error {
 }
 
 // Expect expects the owner's own change of the key, to none if it is nil: later epochs may show the old or the new key, and from
-// epoch `by` on only the new one. It returns an error if no name is watched, and while another change is open.
+// epoch `by` on only the new one. No epoch may show the old key after one that showed the new key. It returns an error if no name is
+// watched, and while another change is open: until the chain has its epoch `by` or a later one, or an epoch showed its key.
 func (it *Client) Expect(key []byte, by uint64) error {
 	it.mutex.Lock()
 	defer it.mutex.Unlock()
@@ -217,17 +220,7 @@ func (it *Client) Expect(key []byte, by uint64) error {
 	if last := it.chain.latest(); last != nil {
 		latest = last.body.Epoch
 	}
-	changed, err := it.watch.changed(key, latest, by)
-	if err != nil {
-		return err
-	}
-	for _, kept := range it.chain {
-		if kept.seen == seenNewKey {
-			kept.seen = seenKey
-		}
-	}
-	it.watch = changed
-	return nil
+	return it.watch.expect(key, latest, by)
 }
 
 // Missing returns the epochs that must show the watched name, and of which no reply was accepted.
@@ -236,7 +229,7 @@ func (it *Client) Missing() []uint64 {
 	defer it.mutex.Unlock()
 	var epochs []uint64
 	for _, kept := range it.chain {
-		if kept.seen == seenMissing {
+		if kept.seen == Missing {
 			epochs = append(epochs, kept.body.Epoch)
 		}
 	}
@@ -252,7 +245,7 @@ func (it *Client) Lost() []uint64 {
 	var epochs []uint64
 	for at, kept := range it.chain {
 		isLatest := at == len(it.chain)-1
-		if kept.seen == seenMissing && !isLatest && !it.clock.promises(it.chain[at+1].body.Epoch, now) {
+		if kept.seen == Missing && !isLatest && !it.clock.promises(it.chain[at+1].body.Epoch, now) {
 			epochs = append(epochs, kept.body.Epoch)
 		}
 	}

@@ -48,6 +48,107 @@ func TestSeen(t *testing.T) {
 	}
 }
 
+// sees looks alice up at an epoch, and compares what that shows of her key.
+func (it *world) sees(t *testing.T, made *Client, epoch uint64, wanted Watched) {
+	t.Helper()
+	found, err := made.LookupAt("alice", it.reply(epoch), epoch)
+	if err != nil || found.Seen != wanted {
+		t.Errorf("epoch %d: %v, %v", epoch, found, err)
+	}
+}
+
+// feed feeds the epochs after one up to another one.
+func (it *world) feed(t *testing.T, made *Client, after, last int) {
+	t.Helper()
+	_, err := made.Feed(it.chain[after:last])
+	good(t, err)
+}
+
+// The old key once more, at an epoch that is withheld until an auditor covers the one before it.
+func TestOldKeyOnceMore(t *testing.T) {
+	it := newWorld(t, "AABAB")
+	made := it.client(t, 2)
+	good(t, made.WatchSince("alice", []byte("A"), 1))
+	it.sees(t, made, 1, Same)
+	it.sees(t, made, 2, Same)
+	good(t, made.Expect([]byte("B"), 5))
+	it.feed(t, made, 2, 5)
+	it.sees(t, made, 3, Same)
+	it.sees(t, made, 5, Same)
+	if compared := made.Cover(it.head(5)); compared != Equal || len(made.Entries()) != 2 {
+		t.Fatal(compared, len(made.Entries()))
+	}
+	it.sees(t, made, 4, Changed)
+}
+
+// A new key too early, at an epoch that is withheld until the next change is expected.
+func TestNewKeyTooEarly(t *testing.T) {
+	it := newWorld(t, "ABABC")
+	made := it.client(t, 1)
+	good(t, made.Watch("alice", []byte("A")))
+	it.sees(t, made, 1, Same)
+	good(t, made.Expect([]byte("B"), 4))
+	it.feed(t, made, 1, 4)
+	it.sees(t, made, 3, Same)
+	it.sees(t, made, 4, Same)
+	good(t, made.Expect([]byte("C"), 5))
+	it.feed(t, made, 4, 5)
+	it.sees(t, made, 2, Changed)
+	it.sees(t, made, 5, Same)
+}
+
+// Each epoch of two changes in a row is the same, whenever it is looked up again.
+func TestChangesInARow(t *testing.T) {
+	it := newWorld(t, "AAABBCC")
+	made := it.client(t, 3)
+	good(t, made.WatchSince("alice", []byte("A"), 1))
+	it.sees(t, made, 1, Same)
+	it.sees(t, made, 3, Same)
+	good(t, made.Expect([]byte("B"), 4))
+	it.feed(t, made, 3, 5)
+	it.sees(t, made, 4, Same)
+	good(t, made.Expect([]byte("C"), 6))
+	it.feed(t, made, 5, 7)
+	for _, epoch := range []uint64{7, 2, 1, 2, 3, 4, 5, 6, 7} {
+		it.sees(t, made, epoch, Same)
+	}
+	whole := len(made.State())
+	for oldest, dropped := range map[uint64]int{4: 3, 6: 5} {
+		again, err := Resume(it.settings(7), made.State())
+		good(t, err)
+		if compared := again.Cover(it.head(oldest)); compared != Equal || len(again.Entries()) != 7-dropped {
+			t.Error(compared, len(again.Entries()))
+		}
+		// A change with a key of one byte has 21 bytes.
+		if changes := (dropped - 1) / 2; len(again.State()) != whole-218*dropped-21*changes {
+			t.Error(oldest, len(again.State()))
+		}
+		for epoch := oldest; epoch <= 7; epoch++ {
+			it.sees(t, again, epoch, Same)
+		}
+	}
+}
+
+// A change that is over at an epoch that shows the new key, before `by`.
+func TestNextChange(t *testing.T) {
+	it := newWorld(t, "AABC")
+	made := it.client(t, 1)
+	good(t, made.Watch("alice", []byte("A")))
+	good(t, made.Expect([]byte("B"), 9))
+	it.feed(t, made, 1, 3)
+	it.sees(t, made, 2, Same)
+	misuse(t, made.Expect([]byte("C"), 9))
+	it.sees(t, made, 3, Same)
+	misuse(t, made.Expect([]byte("B"), 9))
+	good(t, made.Expect([]byte("C"), 9))
+	it.feed(t, made, 3, 4)
+	it.sees(t, made, 4, Same)
+	for _, key := range []string{"A", "B", "C"} {
+		good(t, made.Watch("alice", []byte(key)))
+	}
+	misuse(t, made.Watch("alice", []byte("D")))
+}
+
 // The errors of a reply that has several, in their order.
 func TestOrderOfErrors(t *testing.T) {
 	it := newWorld(t, "AA")

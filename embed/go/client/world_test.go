@@ -15,10 +15,11 @@ import (
 	"example.org/coniks"
 )
 
-// examples are those of docs/FORMATS.md: alice is registered with the key `k` at epoch 1, and bob at epoch 2.
+// examples are those of docs/FORMATS.md: alice is registered with the key `k` at epoch 1, and bob at epoch 2. Watch is the end of the
+// second state.
 type examples struct {
-	Policy, Signing, VRF, Reply, History, State string
-	Entries                                     []string
+	Policy, Signing, VRF, Reply, History, State, Watch string
+	Entries                                            []string
 }
 
 func unhex(t testing.TB, text string) []byte {

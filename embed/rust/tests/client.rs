@@ -7,7 +7,7 @@ use coniks::client::{
     VrfKey, Watched,
 };
 use coniks::{link, Body, Error, EvidenceKind, Head};
-use formats::{bytes, entries, fed, keys, policy, Time, HISTORY, PERIOD, POLICY, REPLY, START, STATE};
+use formats::{bytes, entries, fed, keys, policy, Time, HISTORY, PERIOD, POLICY, REPLY, START, STATE, WATCH};
 use std::collections::BTreeMap;
 use std::num::{NonZeroU64, NonZeroUsize};
 use std::panic::{catch_unwind, AssertUnwindSafe};
@@ -136,6 +136,11 @@ fn the_state_of_the_example() {
     assert_eq!(client.lookup("alice", &bytes(REPLY), None), Ok(shown(2, Some(Watched::Same), 60)));
     assert_eq!(client.missing(), [1]);
     assert_eq!(client.state(), bytes(STATE));
+    let mut changed = Client::resume(keys(), policy(), &bytes(STATE), time.settings()).expect("a state");
+    changed.expect(Some(b"n"), 5).expect("a change");
+    assert_eq!(changed.state()[37 + 2 * 218..], bytes(WATCH));
+    let again = Client::resume(keys(), policy(), &changed.state(), time.settings()).expect("a state");
+    assert_eq!(again.state(), changed.state());
     let resumed = Client::resume(keys(), policy(), &bytes(STATE), time.settings()).expect("a state");
     assert_eq!((resumed.state(), resumed.missing()), (bytes(STATE), vec![1]));
     assert!(resumed.entries().map(|it| it.to_vec()).eq(entries()));
@@ -397,6 +402,131 @@ fn numbers_of_lost_epochs_are_exact() {
             let late = Client::resume(with_schemes(&scheme, &scheme), policy, &client.state(), settings).expect("a client");
             assert_eq!(late.lost(), Vec::<u64>::new(), "{document}");
         }
+    }
+}
+
+/// Keys of alice, with the roots of trees that have her alone under the nonce and the index of these tests. Python's hashlib
+/// computed them.
+const ROOTS: [(char, &str); 3] = [
+    ('A', "58b32f0de8328c396a8709285860e58644783719082171abc262fe275a4c3aaa"),
+    ('B', "7628ec754cdc1990eaabaee114c62dba0ce5dc31dd5fb07faa5036886a5d47ff"),
+    ('C', "ba2c322721eac26644ad0d4b13e38348b957bc1f6c9fc565392d8ba44c458407"),
+];
+
+/// Alice, who watches her name, in a directory where she has one of these keys at each epoch.
+struct Owner {
+    client: Client,
+    keys: &'static str,
+    entries: Vec<Vec<u8>>,
+}
+
+impl Owner {
+    /// Her client was fed the first epochs, and watches the first key from epoch 1 on.
+    fn new(keys: &'static str, fed: usize) -> Self {
+        let (mut entries, mut before) = (Vec::new(), [0; 32]);
+        for (epoch, key) in (1..).zip(keys.chars()) {
+            let (_, root) = ROOTS.iter().find(|it| it.0 == key).expect("a root");
+            let mut entry = entry_of(epoch, epoch - 1, before);
+            entry[17..49].copy_from_slice(&bytes(root));
+            before = link(&entry).expect("an entry");
+            entries.push(entry);
+        }
+        let mut it = Self { client: credulous(POLICY, START), keys, entries };
+        it.client.watch("alice", Some(&keys.as_bytes()[..1]), Some(1)).expect("no other name");
+        it.feed(0, fed);
+        it
+    }
+
+    /// Feeds the epochs after one up to another one.
+    fn feed(&mut self, after: usize, last: usize) {
+        assert_eq!(self.client.feed(&self.entries[after..last]).map(|it| it.len()), Ok(last - after));
+    }
+
+    /// Looks her name up at an epoch, and compares what that shows.
+    fn sees(&mut self, epoch: usize, wanted: Watched) {
+        let key = self.keys.as_bytes()[epoch - 1];
+        let proof = [&[2, 0, 0][..], &[4; 32], &[0, 5], b"alice", &[0, 0, 0, 1, key]].concat();
+        let reply = [&[1][..], &self.entries[epoch - 1], &[0, 0], &proof].concat();
+        let seen = self.client.lookup("alice", &reply, Some(epoch as u64)).map(|it| it.seen);
+        assert_eq!(seen, Ok(Some(wanted)), "epoch {epoch}");
+    }
+
+    fn expect(&mut self, key: &str, by: u64) -> Result<(), Misuse> {
+        self.client.expect(Some(key.as_bytes()), by)
+    }
+
+    /// An auditor covers the epochs up to one. Returns how many are kept.
+    fn cover(&mut self, epoch: usize) -> usize {
+        let head = Head { epoch: epoch as u64, link: link(&self.entries[epoch - 1]).expect("an entry") };
+        assert_eq!(self.client.cover(&head), Comparison::Equal);
+        self.client.entries().len()
+    }
+}
+
+#[test]
+fn the_old_key_once_more_is_another_one() {
+    let mut alice = Owner::new("AABAB", 2);
+    alice.sees(1, Watched::Same);
+    alice.sees(2, Watched::Same);
+    alice.expect("B", 5).expect("a change");
+    alice.feed(2, 5);
+    alice.sees(3, Watched::Same);
+    alice.sees(5, Watched::Same);
+    // Epoch 4 is withheld until an auditor covers epoch 3.
+    assert_eq!(alice.cover(5), 2);
+    alice.sees(4, Watched::Changed);
+}
+
+#[test]
+fn the_new_key_too_early_is_another_one() {
+    let mut alice = Owner::new("ABABC", 1);
+    alice.sees(1, Watched::Same);
+    alice.expect("B", 4).expect("a change");
+    alice.feed(1, 4);
+    alice.sees(3, Watched::Same);
+    alice.sees(4, Watched::Same);
+    // Epoch 2 is withheld until the next change is expected.
+    alice.expect("C", 5).expect("a change");
+    alice.feed(4, 5);
+    alice.sees(2, Watched::Changed);
+    alice.sees(5, Watched::Same);
+}
+
+#[test]
+fn two_changes_in_a_row_stay_the_same() {
+    let mut alice = Owner::new("AAABBCC", 3);
+    alice.sees(1, Watched::Same);
+    alice.sees(3, Watched::Same);
+    alice.expect("B", 4).expect("a change");
+    alice.feed(3, 5);
+    alice.sees(4, Watched::Same);
+    alice.expect("C", 6).expect("a change");
+    alice.feed(5, 7);
+    for epoch in [7, 2, 1, 2, 3, 4, 5, 6, 7] {
+        alice.sees(epoch, Watched::Same);
+    }
+    for (oldest, changes) in [(3, 2), (4, 1), (6, 0)] {
+        assert_eq!(alice.cover(oldest), 8 - oldest);
+        // Those of a watch without a change, and 21 for each change to a key of one byte.
+        assert_eq!(alice.client.state().len(), 70 + 218 * (8 - oldest) + 23 + 21 * changes);
+        (oldest..8).for_each(|epoch| alice.sees(epoch, Watched::Same));
+    }
+}
+
+#[test]
+fn a_change_is_over_once_the_latest_epoch_shows_the_new_key() {
+    let mut alice = Owner::new("AABC", 1);
+    alice.expect("B", 9).expect("a change");
+    alice.feed(1, 3);
+    alice.sees(2, Watched::Same);
+    assert_eq!(alice.expect("C", 9), Err(Misuse::ChangeOpen));
+    alice.sees(3, Watched::Same);
+    assert_eq!((alice.expect("B", 9), alice.expect("C", 3)), (Err(Misuse::SameKey), Err(Misuse::NotLater)));
+    alice.expect("C", 9).expect("a change");
+    alice.feed(3, 4);
+    alice.sees(4, Watched::Same);
+    for (key, wanted) in [(b"A", Ok(())), (b"B", Ok(())), (b"C", Ok(())), (b"D", Err(Misuse::OtherWatch))] {
+        assert_eq!(alice.client.watch("alice", Some(key), None), wanted);
     }
 }
 

@@ -148,7 +148,7 @@ fn a_state_that_is_cut_or_changed() {
 #[test]
 fn a_state_with_lengths_that_nothing_follows() {
     for (state, digest) in formats::STATES {
-        let state = [bytes("01"), bytes(formats::DIGEST), bytes(state), bytes(digest)].concat();
+        let state = [bytes("02"), bytes(formats::DIGEST), bytes(state), bytes(digest)].concat();
         assert_eq!(resumed(&state).err(), Some(Cause::StateForm), "{state:x?}");
     }
 }

@@ -11,7 +11,7 @@ from typing import Any
 from ._files import lock, opened_at, rewrite
 from ._http import Unusable
 
-_BEGIN = "coniks-client 1 "
+_NAME, _VERSION = "coniks-client", "2"
 
 
 class StateFile:
@@ -30,16 +30,20 @@ class StateFile:
             raise Unusable(f"another run has {path}: wait for it") from None
 
     def read(self) -> dict[str, Any]:
-        """The members that are stored. Raises `Unusable` if there is no file, or one that was cut or changed."""
+        """The members that are stored. Raises `Unusable` if there is no file, one that was cut or changed, or one of another version."""
         if not self.path.exists():
             raise Unusable(f"{self.path} isn't there: coniks-client begin makes it")
         front, _, text = self.path.read_bytes().partition(b"\n")
-        if front.decode("latin-1") != _BEGIN + hashlib.sha256(text).hexdigest():
+        words = front.decode("latin-1").split(" ")
+        if len(words) != 3 or words[0] != _NAME or words[2] != hashlib.sha256(text).hexdigest():
             raise Unusable(f"{self.path} is no state of coniks-client, or was cut or changed: restore it, or begin anew")
+        if words[1] != _VERSION:
+            raise Unusable(f"{self.path} is a state of another version of coniks-client: use that version, or begin anew")
         members: dict[str, Any] = json.loads(text)
         return members
 
     def write(self, members: dict[str, Any]) -> None:
         """Stores members durably in the place of the others."""
         text = json.dumps(members).encode()
-        rewrite(self.path, f"{_BEGIN}{hashlib.sha256(text).hexdigest()}\n".encode() + text, 0o600)
+        front = f"{_NAME} {_VERSION} {hashlib.sha256(text).hexdigest()}\n"
+        rewrite(self.path, front.encode() + text, 0o600)

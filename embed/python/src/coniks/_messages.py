@@ -105,7 +105,7 @@ TEXTS = {
     Cause.FUTURE: "the latest epoch has not begun by the policy's clock: see whether the clock is right, or alarm",
     Cause.VRF_PROOF: f"the VRF proof is not one of this name: {_LINE}",
     Cause.STATE_LENGTH: f"a state has at least 70 bytes: {_STATE}",
-    Cause.STATE_VERSION: "the state has another version than 1: take a later version of this package",
+    Cause.STATE_VERSION: "the state has another version than 2: take the package that wrote it, or start anew with an auditor's head",
     Cause.STATE_DAMAGED: f"the state was changed: {_STATE}",
     Cause.STATE_POLICY: "the state is that of another directory: take the one of this policy",
     Cause.STATE_FORM: f"the state is not one of docs/FORMATS.md: {_STATE}",

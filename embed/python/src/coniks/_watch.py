@@ -4,8 +4,7 @@ from __future__ import annotations
 
 import enum
 from dataclasses import dataclass, replace
-from itertools import takewhile
-from typing import Iterable, Optional, Reversible
+from typing import Optional
 
 from . import ENTRY_LENGTH, Body, _bytes, _number, link
 from ._messages import Cause, Reader, Refusal, sized
@@ -24,11 +23,10 @@ class Watched(enum.Enum):
 
 
 class Seen(enum.IntEnum):
-    """The same by its number in a state. The key and the new key of an expected change are told apart."""
+    """The same by its number in a state."""
 
     UNWATCHED = 0
-    KEY = 1
-    NEW_KEY = 2
+    SAME = 1
     CHANGED = 3
     ABSENT = 4
     MISSING = 5
@@ -36,8 +34,7 @@ class Seen(enum.IntEnum):
     @property
     def told(self) -> Optional[Watched]:
         """What the client's caller is told, None of an epoch that is not watched."""
-        names = [None, Watched.SAME, Watched.SAME, Watched.CHANGED, Watched.ABSENT, Watched.MISSING]
-        return names[self]
+        return None if self is Seen.UNWATCHED else Watched[self.name]
 
 
 @dataclass
@@ -60,77 +57,82 @@ class Kept:
 
 @dataclass(frozen=True)
 class Change:
-    """A change of the watched key that its owner makes: epochs after `after` may show the new key, and those from `by` on must."""
+    """A change of the watched key that its owner makes: epochs up to `last_old` show the key before it, and those from `first_new` on
+    the new key. An epoch between both may show either, and becomes the last old or the first new one then."""
 
-    after: int
-    by: int
+    last_old: int
+    first_new: int
     key: Optional[bytes]
+
+    def __bytes__(self) -> bytes:
+        return self.last_old.to_bytes(8, "big") + self.first_new.to_bytes(8, "big") + sized(self.key or b"", 4)
 
 
 @dataclass(frozen=True)
 class Watch:
-    """The watched name: the key that epochs from `since` on must show, None if it must be bound to none, and a change of it."""
+    """The watched name: the key that epochs from `since` on must show before the first change, None if it must be bound to none, and
+    the changes in their order."""
 
     name: bytes
     since: int
     key: Optional[bytes]
-    change: Optional[Change] = None
+    changes: tuple[Change, ...] = ()
 
-    def expects(self, key: Optional[bytes]) -> bool:
-        """Whether a key is one of those that may be shown."""
-        return key == self.key or (self.change is not None and key == self.change.key)
+    @property
+    def keys(self) -> list[Optional[bytes]]:
+        """The first key, and that of each change."""
+        return [self.key, *(it.key for it in self.changes)]
+
+    def _begun(self, epoch: int) -> int:
+        """The number of changes whose first new epoch is this one or an earlier one."""
+        return sum(it.first_new <= epoch for it in self.changes)
 
     def first(self, epoch: int) -> Seen:
         """What is seen at an epoch before there is a reply."""
         return Seen.MISSING if epoch >= self.since else Seen.UNWATCHED
 
-    def seen(self, epoch: int, key: Optional[bytes], kept: Reversible[Kept]) -> Seen:
-        """What an epoch shows with a key. A key that changes back is another one."""
-        change = self.change
-        if key == self.key and (
-            change is None or (epoch < change.by and not any_seen(kept, Seen.NEW_KEY, range(change.after + 1, epoch)))
-        ):
-            return Seen.KEY
-        if change and key == change.key and epoch > change.after:
-            # No epoch from `by` on shows the old key.
-            if epoch >= change.by or not any_seen(kept, Seen.KEY, range(epoch + 1, change.by)):
-                return Seen.NEW_KEY
-        return Seen.ABSENT if key is None else Seen.CHANGED
+    def shown(self, epoch: int, key: Optional[bytes]) -> tuple[Watch, Seen]:
+        """This watch, once an epoch showed a key, and what that epoch shows. A key that changes back is another one."""
+        begun = self._begun(epoch)
+        is_same, following = key == self.keys[begun], self.changes[begun] if begun < len(self.changes) else None
+        if following and following.last_old < epoch and (is_same or key == following.key):
+            marked = replace(following, last_old=epoch) if is_same else replace(following, first_new=epoch)
+            return replace(self, changes=(*self.changes[:begun], marked, *self.changes[begun + 1 :])), Seen.SAME
+        return self, Seen.SAME if is_same else Seen.ABSENT if key is None else Seen.CHANGED
 
-    def changed(self, new: Optional[bytes], after: int, by: int) -> Watch:
-        """This watch with a change that is expected. Raises ValueError while another one is open."""
-        if self.change and after < self.change.by:
-            raise ValueError(f"another change is expected by epoch {self.change.by}: expect the next one after it")
-        key = self.change.key if self.change else self.key
-        if new == key:
+    def changed(self, new: Optional[bytes], latest: int, by: int) -> Watch:
+        """This watch with one more change that is expected. Raises ValueError while another one is open."""
+        begun = self._begun(latest)
+        if begun < len(self.changes):
+            raise ValueError(f"another change is expected by epoch {self.changes[begun].first_new}: expect the next one after it")
+        if new == self.keys[begun]:
             raise ValueError("the new key is the one that is expected already")
-        if by <= after:
-            raise ValueError(f"epoch {after} is in the chain: expect the new key by a later one")
-        return replace(self, key=key, change=Change(after, by, new))
+        if by <= latest:
+            raise ValueError(f"epoch {latest} is in the chain: expect the new key by a later one")
+        return replace(self, changes=(*self.changes, Change(latest, by, new)))
 
-    def needs(self, kept: Kept, latest: int) -> bool:
-        """Whether an epoch is kept although an auditor's chain covers it."""
-        is_open = self.change is not None and latest < self.change.by
-        return kept.seen == Seen.MISSING or (is_open and kept.seen == Seen.NEW_KEY)
+    def kept_from(self, oldest: int) -> Watch:
+        """This watch without the changes whose first new epoch is the oldest kept one or an earlier one."""
+        begun = self._begun(oldest)
+        return replace(self, key=self.keys[begun], changes=self.changes[begun:])
+
+    @property
+    def is_in_order(self) -> bool:
+        """Whether each change begins at the first new epoch of the one before it or later, and has another key."""
+        starts = [0, *(it.first_new for it in self.changes)]
+        return all(start <= it.last_old < it.first_new and it.key != key for start, key, it in zip(starts, self.keys, self.changes))
 
     def fits(self, kept: Kept) -> bool:
         """Whether an epoch of a state can have been seen so."""
-        if kept.body.epoch < self.since:
+        epoch = kept.body.epoch
+        if epoch < self.since:
             return kept.seen == Seen.UNWATCHED
-        return kept.seen != Seen.UNWATCHED and (kept.seen != Seen.NEW_KEY or self.change is not None)
+        is_between = any(it.last_old < epoch < it.first_new for it in self.changes)
+        return kept.seen != Seen.UNWATCHED and not (is_between and kept.seen == Seen.SAME)
 
     def __bytes__(self) -> bytes:
-        first = sized(self.name, 1) + self.since.to_bytes(8, "big") + sized(self.key or b"", 4)
-        if self.change is None:
-            return b"\x01" + first
-        numbers = self.change.after.to_bytes(8, "big") + self.change.by.to_bytes(8, "big")
-        return b"\x02" + first + numbers + sized(self.change.key or b"", 4)
-
-
-def any_seen(kept: Reversible[Kept], seen: Seen, epochs: range) -> bool:
-    """Whether this was seen at one of these epochs, which are among the last ones that are kept."""
-    later = takewhile(lambda it: bool(epochs) and it.body.epoch >= epochs.start, reversed(kept))
-    return any(it.seen == seen and it.body.epoch < epochs.stop for it in later)
+        first = b"\x01" + sized(self.name, 1) + self.since.to_bytes(8, "big") + sized(self.key or b"", 4)
+        return first + len(self.changes).to_bytes(4, "big") + b"".join(map(bytes, self.changes))
 
 
 def made(name: bytes, key: Optional[bytes], since: int) -> Watch:
@@ -154,7 +156,7 @@ def watch_bytes(watch: Optional[Watch]) -> bytes:
 def read_kept(it: Reader) -> Kept:
     """The next epoch of a state."""
     entry, first_seen, seen = it.take(ENTRY_LENGTH), it.number(8), it.number(1)
-    if seen > Seen.MISSING:
+    if seen not in Seen.__members__.values():
         raise Refusal(Cause.STATE_FORM)
     return Kept.of(entry, first_seen, Seen(seen))
 
@@ -165,16 +167,11 @@ def read_watch(it: Reader) -> Optional[Watch]:
     if kind == 0:
         return None
     watch = Watch(it.sized(1), it.number(8), it.sized(4) or None)
-    if kind == 2:
-        change = Change(it.number(8), it.number(8), it.sized(4) or None)
-        watch = replace(watch, change=change)
-    is_change = watch.change is None or (watch.change.after < watch.change.by and watch.change.key != watch.key)
-    if kind > 2 or not watch.name or not is_change:
+    watch = replace(watch, changes=tuple(read_change(it) for _ in range(it.number(4))))
+    if kind != 1 or not watch.name or not watch.is_in_order:
         raise Refusal(Cause.STATE_FORM)
     return watch
 
 
-def settled(kept: Iterable[Kept]) -> None:
-    """The new key of a change that is over becomes the key."""
-    for it in kept:
-        it.seen = Seen.KEY if it.seen == Seen.NEW_KEY else it.seen
+def read_change(it: Reader) -> Change:
+    return Change(it.number(8), it.number(8), it.sized(4) or None)

@@ -42,7 +42,7 @@ from typing import Any, Callable, Iterable, Mapping, NoReturn, Optional, Protoco
 
 from . import BODY_LENGTH, ENTRY_LENGTH, Auditor, Body, Head, Name, Policy, Refused, _bytes, _name, _number, check, convicts
 from . import _watch
-from ._messages import VERSION, Cause, Evidence, History, Reader, Refusal, Reply, catch_up_entries
+from ._messages import Cause, Evidence, History, Reader, Refusal, Reply, catch_up_entries
 from ._watch import Kept, Seen, Watch, Watched
 
 __all__ = [
@@ -58,6 +58,7 @@ __all__ = [
     "Watched",
 ]
 
+_VERSION = b"\x02"  # of a state
 _FIXED = 1 + 32 + 4 + 1 + 32  # the bytes of a state without epochs and watch
 
 
@@ -315,12 +316,13 @@ class Client:
 
     def cover(self, head: Head) -> Comparison:
         """Drops the entries before that of an auditor's head, if it is one of this chain: the auditor's chain has them. Epochs
-        that are missing stay, with what follows them, and so do those of a change that is open."""
-        found, latest = self.compare(head), self.head()
-        if found is Comparison.EQUAL and latest:
-            needed = [it.body.epoch for it in self._kept if self._watch and self._watch.needs(it, latest.epoch)]
-            first = min([head.epoch, *needed])
-            self._at = {epoch: it for epoch, it in self._at.items() if epoch >= first}
+        that are missing stay, with what follows them."""
+        found = self.compare(head)
+        if found is Comparison.EQUAL:
+            oldest = min([head.epoch, *self.missing])
+            watch = self._watch and self._watch.kept_from(oldest)
+            # The entries come first, so that an interrupt never leaves one whose change was dropped.
+            self._at, self._watch = {epoch: it for epoch, it in self._at.items() if epoch >= oldest}, watch
         return found
 
     def evidence(self, other_entry: bytes) -> Optional[Evidence]:
@@ -383,7 +385,8 @@ class Client:
     def _found(self, name: bytes, kept: Kept, key: Optional[bytes], now: float) -> Found:
         seen, watch, epoch = None, self._watch, kept.body.epoch
         if watch and name == watch.name and epoch >= watch.since:
-            kept.seen = watch.seen(epoch, key, self._at.values())
+            # The watch comes first, so that an interrupt never leaves an epoch that is seen and of which it knows nothing.
+            self._watch, kept.seen = watch.shown(epoch, key)
             seen = kept.seen.told
         return Found(epoch, key, seen, self._age(kept, now), kept.first_seen)
 
@@ -422,18 +425,17 @@ class Client:
             for it in self._kept:
                 it.seen = watch.first(it.body.epoch)
             self._watch = watch
-        elif watch.name != self._watch.name or not self._watch.expects(watch.key) or since not in (None, self._watch.since):
+        elif watch.name != self._watch.name or watch.key not in self._watch.keys or since not in (None, self._watch.since):
             raise ValueError("this client watches another name or key: use `expect`, or make another client")
 
     def expect(self, new: Optional[bytes], by: int) -> None:
         """Expects the owner's own change of the key: later epochs may show the old or the new key, and from epoch `by` on only
-        the new one. Raises ValueError if no name is watched, and while another change is open."""
+        the new one. No epoch may show the old key after one that showed the new key. Raises ValueError if no name is watched, and
+        while another change is open: until the chain has its epoch `by` or a later one, or an epoch showed its key."""
         if self._watch is None:
             raise ValueError("no name is watched: call `watch` first")
         latest = self.head()
-        watch = self._watch.changed(_watch.expected(new), latest.epoch if latest else 0, _number(by, 64, "the epoch"))
-        _watch.settled(self._kept)
-        self._watch = watch
+        self._watch = self._watch.changed(_watch.expected(new), latest.epoch if latest else 0, _number(by, 64, "the epoch"))
 
     @property
     def missing(self) -> list[int]:
@@ -456,13 +458,13 @@ class Client:
     def state(self) -> bytes:
         """All that the client keeps, to be stored, and given to another one: 70 bytes, 218 for each epoch, and the watched name."""
         kept = [len(self._at).to_bytes(4, "big"), *map(bytes, self._kept)]
-        whole = b"".join([VERSION, self._digest, *kept, _watch.watch_bytes(self._watch)])
+        whole = b"".join([_VERSION, self._digest, *kept, _watch.watch_bytes(self._watch)])
         return whole + hashlib.sha256(whole).digest()
 
     def _resume(self, state: bytes) -> None:
         for is_wrong, cause in [
             (len(state) < _FIXED, Cause.STATE_LENGTH),
-            (state[:1] != VERSION, Cause.STATE_VERSION),
+            (state[:1] != _VERSION, Cause.STATE_VERSION),
             (hashlib.sha256(state[:-32]).digest() != state[-32:], Cause.STATE_DAMAGED),
             (state[1:33] != self._digest, Cause.STATE_POLICY),
         ]:

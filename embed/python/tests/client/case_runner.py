@@ -7,6 +7,7 @@ import json
 from pathlib import Path
 from typing import Any, Callable, Iterator, Optional
 
+import client_alarms
 import coniks
 from coniks.client import Cause, Client, Found, Refusal
 
@@ -33,7 +34,8 @@ class Clock:
 
 
 def cases() -> Iterator[Answer]:
-    for file in sorted(CASES.glob("*.jsonl")):
+    """All cases but those of states that this package does not read."""
+    for file in sorted(it for it in CASES.glob("*.jsonl") if it.stem not in client_alarms.FILES):
         for line in file.read_text("utf-8").splitlines():
             yield json.loads(line)
 

@@ -15,12 +15,17 @@ from client_world import PERIOD, SIGNING_KEY, VRF_KEY, World, digest, hour, poli
 KEYS = "-AB-ABCCBA"
 NUMBERS = [1, 2, 3, 4, 6, 7, 8, 9, 11, 12]
 POLICY = policy_text(kept=2 * PERIOD)
-WORLD = World([(epoch, {} if key == "-" else {"alice": key.encode()}) for epoch, key in zip(NUMBERS, KEYS)], 8, digest(POLICY))
 NAME = b"alice".hex()
+
+
+def world_of(keys: str) -> World:
+    return World([(epoch, {} if key == "-" else {"alice": key.encode()}) for epoch, key in zip(NUMBERS, keys)], 8, digest(POLICY))
 
 
 class Walk:
     """The steps of one walk, which are chosen at random."""
+
+    world = world_of(KEYS)
 
     def __init__(self, chance: random.Random) -> None:
         self.chance, self.fed, self.asked = chance, 0, 0
@@ -52,17 +57,17 @@ class Walk:
 
     def feed(self) -> Answer:
         start, self.fed = self.fed, min(len(NUMBERS), self.fed + self.chance.choice([1, 1, 2, 3]))
-        return {"do": "feed", "entries": [WORLD[it].hex() for it in NUMBERS[start : self.fed]]}
+        return {"do": "feed", "entries": [self.world[it].hex() for it in NUMBERS[start : self.fed]]}
 
     def lookup(self) -> Answer:
         epoch = self.epoch()
         shown = epoch if epoch in NUMBERS else 1
-        return {"do": "lookup", "name": NAME, "reply": WORLD.reply("alice", shown).hex(), "epoch": epoch}
+        return {"do": "lookup", "name": NAME, "reply": self.world.reply("alice", shown).hex(), "epoch": epoch}
 
     def history(self) -> Answer:
         fed = NUMBERS[: self.fed] or [1]
         epochs = sorted(self.chance.sample(fed, self.chance.randrange(1, len(fed) + 1)))
-        return {"do": "history", "name": NAME, "history": WORLD.history("alice", *epochs).hex()}
+        return {"do": "history", "name": NAME, "history": self.world.history("alice", *epochs).hex()}
 
     def watch(self) -> Answer:
         return {"do": "watch", "name": NAME, "key": self.key(), "since": self.chance.choice([None, None, 1, 3, 7])}
@@ -73,7 +78,7 @@ class Walk:
 
     def cover(self) -> Answer:
         epoch = self.epoch()
-        return {"do": "cover", "epoch": epoch, "link": WORLD.link(epoch if epoch in NUMBERS else 1).hex()}
+        return {"do": "cover", "epoch": epoch, "link": self.world.link(epoch if epoch in NUMBERS else 1).hex()}
 
 
 def state_of(case: Answer) -> bytes:

@@ -107,8 +107,8 @@ causes! {
     VrfProof = 87: "the VRF proof is not one of this name: ", REPLY;
     /// The state has fewer than 70 bytes.
     StateLength = 96: "a state has at least 70 bytes: ", STATE;
-    /// The state's first byte isn't 1.
-    StateVersion = 97: "the state has another version than 1: take a later version of this package";
+    /// The state's first byte isn't 2.
+    StateVersion = 97: "the state has another version than 2: take the package that wrote it, or start anew with an auditor's head";
     /// The state's digest isn't that of the bytes before it.
     StateDamaged = 98: "the state was changed: ", STATE;
     /// The state's policy digest isn't that of the client.

@@ -59,11 +59,11 @@ use std::string::String;
 use std::sync::Arc;
 use std::time::{SystemTime, UNIX_EPOCH};
 use std::vec::Vec;
-use watch::{settle, Chain, Kept, Seen, Watch};
+use watch::{Chain, Kept, Watch};
 
 /// The bytes of a state without epochs and watched name.
 const LEAST_STATE: usize = 70;
-const STATE_VERSION: u8 = 1;
+const STATE_VERSION: u8 = 2;
 
 /// Returns the time since the Unix epoch.
 pub type Clock = Box<dyn Fn() -> Duration + Send + Sync>;
@@ -219,7 +219,7 @@ impl Client {
         settings: Settings,
     ) -> Result<Self, Refusal> {
         let mut client = Self::new(keys, policy, settings)?;
-        let kept = Kept::of(client.verified(entry)?, client.now().as_secs(), Seen::Unwatched)?;
+        let kept = Kept::of(client.verified(entry)?, client.now().as_secs(), None)?;
         let links: Vec<&[u8; 32]> = heads.values().filter(|it| it.epoch == kept.body.epoch).map(|it| &it.link).collect();
         if links.iter().any(|it| **it != kept.link) {
             return Err(Cause::AuditorsDiffer.into());
@@ -259,10 +259,10 @@ impl Client {
             let cause = if evidence.is_some() { Cause::Equivocation } else { error.into() };
             return Err(Refusal::with(cause, Some(error), evidence));
         }
-        let mut kept = Kept::of(entry, now.as_secs(), Seen::Unwatched)?;
+        let mut kept = Kept::of(entry, now.as_secs(), None)?;
         let epoch = kept.body.epoch;
-        kept.seen = self.watch.as_ref().map_or(Seen::Unwatched, |it| it.first(epoch));
-        let seen = kept.seen.told();
+        let seen = self.watch.as_ref().and_then(|it| it.first(epoch));
+        kept.seen = seen;
         self.kept.insert(epoch, kept);
         Ok(Step { epoch, seen })
     }
@@ -341,13 +341,16 @@ impl Client {
     }
 
     /// Drops the entries before that of an auditor's head, if it is one of this chain: the auditor's chain has them. Epochs that
-    /// are missing stay, with what follows them, and so do those of a change that is open.
+    /// are missing stay, with what follows them.
     pub fn cover(&mut self, head: &Head) -> Comparison {
         let found = self.compare(head);
-        if let (Comparison::Equal, Some(latest)) = (found, self.latest_epoch()) {
-            let is_needed = |it: &&Kept| self.watch.as_ref().is_some_and(|watch| watch.needs(it, latest));
-            let needed = self.kept.values().find(is_needed).map_or(head.epoch, |it| it.body.epoch);
-            self.kept = self.kept.split_off(&head.epoch.min(needed));
+        if found == Comparison::Equal {
+            let missing = self.kept.values().find(|it| it.seen == Some(Watched::Missing));
+            let oldest = missing.map_or(head.epoch, |it| head.epoch.min(it.body.epoch));
+            self.kept = self.kept.split_off(&oldest);
+            if let Some(watch) = &mut self.watch {
+                watch.settle(oldest);
+            }
         }
         found
     }
@@ -424,12 +427,12 @@ impl Client {
     }
 
     fn found(&mut self, name: &[u8], epoch: u64, key: Option<Arc<[u8]>>, now: Duration) -> Result<Found, Cause> {
-        let watch = self.watch.as_ref().filter(|it| it.name == name && epoch >= it.since);
-        let seen = watch.map(|it| it.seen(epoch, key.as_deref(), &self.kept));
         let age = self.age(epoch, now);
         let kept = self.kept.get_mut(&epoch).ok_or(Cause::UnknownEpoch)?;
-        kept.seen = seen.unwrap_or(kept.seen);
-        Ok(Found { epoch, key, seen: seen.and_then(Seen::told), age, first_seen: kept.first_seen })
+        let watch = self.watch.as_mut().filter(|it| it.name == name && epoch >= it.since);
+        let seen = watch.map(|it| it.see(epoch, key.as_deref()));
+        kept.seen = seen.or(kept.seen);
+        Ok(Found { epoch, key, seen, age, first_seen: kept.first_seen })
     }
 
     fn now(&self) -> Duration {
@@ -489,23 +492,21 @@ impl Client {
     }
 
     /// Expects the owner's own change of the key: later epochs may show the old or the new key, and from epoch `by` on only the
-    /// new one.
+    /// new one. No epoch may show the old key after one that showed the new key.
     ///
     /// # Errors
     ///
-    /// [`Misuse`] if no name is watched, while another change is open, and if key or epoch do not change anything.
+    /// [`Misuse`] if no name is watched, while another change is open, and if key or epoch do not change anything. A change is open
+    /// until the chain has its epoch `by` or a later one, or an epoch showed its key.
     pub fn expect(&mut self, new_key: Option<&[u8]>, by: u64) -> Result<(), Misuse> {
         let latest = self.latest_epoch().unwrap_or(0);
-        let watch = self.watch.as_ref().ok_or(Misuse::NotWatching)?.changed(new_key, latest, by)?;
-        settle(&mut self.kept);
-        self.watch = Some(watch);
-        Ok(())
+        self.watch.as_mut().ok_or(Misuse::NotWatching)?.expect(new_key, latest, by)
     }
 
     /// Returns the epochs that must show the watched name, and of which no reply was accepted.
     #[must_use]
     pub fn missing(&self) -> Vec<u64> {
-        self.kept.values().filter(|it| it.seen == Seen::Missing).map(|it| it.body.epoch).collect()
+        self.kept.values().filter(|it| it.seen == Some(Watched::Missing)).map(|it| it.body.epoch).collect()
     }
 
     /// Returns the missing epochs of which the policy promises no proof any more, by the client's clock. Report that they can no
@@ -513,7 +514,7 @@ impl Client {
     #[must_use]
     pub fn lost(&self) -> Vec<u64> {
         let (now, following) = (self.now(), self.kept.values().skip(1).map(|it| it.body.epoch));
-        let missing = self.kept.values().zip(following).filter(|(it, _)| it.seen == Seen::Missing);
+        let missing = self.kept.values().zip(following).filter(|(it, _)| it.seen == Some(Watched::Missing));
         missing.filter(|&(_, following)| !self.is_promised(following, now)).map(|(it, _)| it.body.epoch).collect()
     }
 
@@ -555,7 +556,7 @@ impl Client {
             kept.push(Kept::read(&mut it)?);
         }
         let watch = Watch::read(&mut it)?;
-        let fits = |at: &Kept| watch.as_ref().map_or(at.seen == Seen::Unwatched, |watch| watch.fits(at));
+        let fits = |at: &Kept| watch.as_ref().map_or(at.seen.is_none(), |watch| watch.fits(at));
         if !it.rest.is_empty() || !kept.iter().all(fits) {
             return Err(Cause::StateForm.into());
         }

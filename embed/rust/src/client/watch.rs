@@ -4,6 +4,7 @@ use super::cause::Cause;
 use super::messages::Reader;
 use crate::{link, Body, ENTRY_BYTES};
 use core::fmt;
+use core::iter::once;
 use std::collections::BTreeMap;
 use std::vec::Vec;
 
@@ -58,35 +59,27 @@ impl fmt::Display for Misuse {
 
 impl core::error::Error for Misuse {}
 
-/// What an epoch shows, by its number in a state. The key and the new key of an expected change are told apart.
-#[derive(Clone, Copy, Debug, PartialEq, Eq)]
-#[repr(u8)]
-pub(super) enum Seen {
-    Unwatched = 0,
-    Key = 1,
-    NewKey = 2,
-    Changed = 3,
-    Absent = 4,
-    Missing = 5,
+/// Returns the number in a state of what was seen at an epoch, None if that is not watched.
+fn number_of(seen: Option<Watched>) -> u8 {
+    match seen {
+        None => 0,
+        Some(Watched::Same) => 1,
+        Some(Watched::Changed) => 3,
+        Some(Watched::Absent) => 4,
+        Some(Watched::Missing) => 5,
+    }
 }
 
-impl Seen {
-    const ALL: [Self; 6] = [Self::Unwatched, Self::Key, Self::NewKey, Self::Changed, Self::Absent, Self::Missing];
-
-    fn of(number: u8) -> Option<Self> {
-        Self::ALL.get(usize::from(number)).copied()
-    }
-
-    /// What the client's caller is told, None of an epoch that is not watched.
-    pub(super) fn told(self) -> Option<Watched> {
-        match self {
-            Self::Unwatched => None,
-            Self::Key | Self::NewKey => Some(Watched::Same),
-            Self::Changed => Some(Watched::Changed),
-            Self::Absent => Some(Watched::Absent),
-            Self::Missing => Some(Watched::Missing),
-        }
-    }
+/// Returns what was seen at an epoch by its number in a state.
+fn seen_of(number: u8) -> Result<Option<Watched>, Cause> {
+    Ok(match number {
+        0 => None,
+        1 => Some(Watched::Same),
+        3 => Some(Watched::Changed),
+        4 => Some(Watched::Absent),
+        5 => Some(Watched::Missing),
+        _ => return Err(Cause::StateForm),
+    })
 }
 
 /// An entry that was accepted, when that was, in Unix seconds, and what was seen of the watched name.
@@ -95,45 +88,51 @@ pub(super) struct Kept {
     pub(super) body: Body,
     pub(super) link: [u8; 32],
     pub(super) first_seen: u64,
-    pub(super) seen: Seen,
+    pub(super) seen: Option<Watched>,
 }
 
 /// The entries that a client keeps, by their epochs, which is the order of the chain.
 pub(super) type Chain = BTreeMap<u64, Kept>;
 
 impl Kept {
-    pub(super) fn of(entry: &[u8; ENTRY_BYTES], first_seen: u64, seen: Seen) -> Result<Self, Cause> {
+    pub(super) fn of(entry: &[u8; ENTRY_BYTES], first_seen: u64, seen: Option<Watched>) -> Result<Self, Cause> {
         Ok(Self { entry: *entry, body: Body::of_entry(entry)?, link: link(entry)?, first_seen, seen })
     }
 
     /// Reads the next epoch of a state.
     pub(super) fn read(it: &mut Reader<'_>) -> Result<Self, Cause> {
         let (entry, first_seen, seen) = (it.array()?, it.u64()?, it.byte()?);
-        Self::of(entry, first_seen, Seen::of(seen).ok_or(Cause::StateForm)?)
+        Self::of(entry, first_seen, seen_of(seen)?)
     }
 
     pub(super) fn write(&self, state: &mut Vec<u8>) {
         state.extend_from_slice(&self.entry);
         state.extend_from_slice(&self.first_seen.to_be_bytes());
-        state.push(self.seen as u8);
+        state.push(number_of(self.seen));
     }
 }
 
-/// A change of the watched key that its owner makes: epochs after `after` may show the new key, and those from `by` on must.
-#[derive(Clone, PartialEq, Eq)]
+/// A change of the watched key that its owner makes: epochs up to `last_old` show the key before it, and those from `first_new`
+/// on the new key. An epoch between them may show either, and becomes `last_old` or `first_new` then.
 struct Change {
-    after: u64,
-    by: u64,
+    last_old: u64,
+    first_new: u64,
     key: Option<Vec<u8>>,
 }
 
-/// The watched name: the key that epochs from `since` on must show, None if it must be bound to none, and a change of it.
-#[derive(Clone, PartialEq, Eq)]
+impl Change {
+    fn read(it: &mut Reader<'_>) -> Result<Self, Cause> {
+        Ok(Self { last_old: it.u64()?, first_new: it.u64()?, key: read_key(it)? })
+    }
+}
+
+/// The watched name: the key that epochs from `since` on must show before the first change, None if it must be bound to none, and
+/// the changes in their order.
 pub(super) struct Watch {
     pub(super) name: Vec<u8>,
     pub(super) since: u64,
     key: Option<Vec<u8>>,
-    change: Option<Change>,
+    changes: Vec<Change>,
 }
 
 impl Watch {
@@ -142,75 +141,94 @@ impl Watch {
         if !(1..=LONGEST_NAME).contains(&name.len()) {
             return Err(Misuse::NameLength);
         }
-        Ok(Self { name: name.to_vec(), since, key: expected(key)?, change: None })
+        Ok(Self { name: name.to_vec(), since, key: expected(key)?, changes: Vec::new() })
     }
 
     /// Returns whether a watch that the caller asks for is this one. A given first epoch must be the same.
     pub(super) fn is_again(&self, other: &Self, since: Option<u64>) -> bool {
-        let is_new = self.change.as_ref().is_some_and(|it| it.key == other.key);
-        self.name == other.name && (self.key == other.key || is_new) && since.is_none_or(|it| it == self.since)
+        self.name == other.name && self.keys().any(|it| *it == other.key) && since.is_none_or(|it| it == self.since)
+    }
+
+    /// Returns the first key, and that of each change.
+    fn keys(&self) -> impl Iterator<Item = &Option<Vec<u8>>> {
+        once(&self.key).chain(self.changes.iter().map(|it| &it.key))
+    }
+
+    /// Returns how many changes have their `first_new` at an epoch or an earlier one.
+    fn begun(&self, epoch: u64) -> usize {
+        self.changes.partition_point(|it| it.first_new <= epoch)
+    }
+
+    /// Returns the key after the first changes.
+    fn key_after(&self, begun: usize) -> &Option<Vec<u8>> {
+        let last = begun.checked_sub(1).and_then(|it| self.changes.get(it));
+        last.map_or(&self.key, |it| &it.key)
     }
 
     /// Returns what is seen at an epoch before there is a reply.
-    pub(super) fn first(&self, epoch: u64) -> Seen {
-        if epoch >= self.since {
-            Seen::Missing
+    pub(super) fn first(&self, epoch: u64) -> Option<Watched> {
+        (epoch >= self.since).then_some(Watched::Missing)
+    }
+
+    /// Returns what a watched epoch shows with a key, and marks it in the change that it is between. A key that changes back is
+    /// another one.
+    pub(super) fn see(&mut self, epoch: u64, key: Option<&[u8]>) -> Watched {
+        let begun = self.begun(epoch);
+        let is_key = key == self.key_after(begun).as_deref();
+        let between = self.changes.get_mut(begun).filter(|it| it.last_old < epoch);
+        let is_new = between.as_ref().is_some_and(|it| key == it.key.as_deref());
+        match between {
+            Some(it) if is_key => it.last_old = epoch,
+            Some(it) if is_new => it.first_new = epoch,
+            _ => (),
+        }
+        if is_key || is_new {
+            Watched::Same
+        } else if key.is_none() {
+            Watched::Absent
         } else {
-            Seen::Unwatched
+            Watched::Changed
         }
     }
 
-    /// Returns what an epoch shows with a key. A key that changes back is another one.
-    pub(super) fn seen(&self, epoch: u64, key: Option<&[u8]>, kept: &Chain) -> Seen {
-        let is_key = key == self.key.as_deref();
-        let Some(change) = &self.change else {
-            return if is_key { Seen::Key } else { other(key) };
-        };
-        if is_key && epoch < change.by && !any_seen(kept, Seen::NewKey, change.after.saturating_add(1), epoch) {
-            return Seen::Key;
-        }
-        // No epoch from `by` on shows the old key.
-        let is_new = key == change.key.as_deref() && epoch > change.after;
-        if is_new && !any_seen(kept, Seen::Key, epoch.saturating_add(1), change.by) {
-            return Seen::NewKey;
-        }
-        other(key)
-    }
-
-    /// Returns this watch with a change that is expected.
-    pub(super) fn changed(&self, new: Option<&[u8]>, after: u64, by: u64) -> Result<Self, Misuse> {
-        let new = expected(new)?;
-        if self.is_open(after) {
+    /// Adds a change that is expected, after the latest epoch.
+    pub(super) fn expect(&mut self, new: Option<&[u8]>, latest: u64, by: u64) -> Result<(), Misuse> {
+        let (key, begun) = (expected(new)?, self.begun(latest));
+        if begun < self.changes.len() {
             return Err(Misuse::ChangeOpen);
         }
-        let key = self.change.as_ref().map_or(&self.key, |it| &it.key);
-        if new == *key {
+        if key == *self.key_after(begun) {
             return Err(Misuse::SameKey);
         }
-        if by <= after {
+        if by <= latest {
             return Err(Misuse::NotLater);
         }
-        let change = Some(Change { after, by, key: new });
-        Ok(Self { name: self.name.clone(), since: self.since, key: key.clone(), change })
+        self.changes.push(Change { last_old: latest, first_new: by, key });
+        Ok(())
     }
 
-    /// Returns whether a change is open at the latest epoch.
-    fn is_open(&self, latest: u64) -> bool {
-        self.change.as_ref().is_some_and(|it| latest < it.by)
+    /// Drops the changes that no epoch from the oldest kept one on needs. The key after them becomes the first one.
+    pub(super) fn settle(&mut self, oldest: u64) {
+        let begun = self.begun(oldest);
+        if let Some(last) = self.changes.drain(..begun).next_back() {
+            self.key = last.key;
+        }
     }
 
-    /// Returns whether an epoch is kept although an auditor's chain covers it.
-    pub(super) fn needs(&self, kept: &Kept, latest: u64) -> bool {
-        kept.seen == Seen::Missing || (kept.seen == Seen::NewKey && self.is_open(latest))
+    /// Returns whether each change begins when the one before it is over, and changes the key.
+    fn is_in_order(&self) -> bool {
+        let starts = once(0).chain(self.changes.iter().map(|it| it.first_new));
+        let mut before = starts.zip(self.keys()).zip(&self.changes);
+        before.all(|((start, key), it)| start <= it.last_old && it.last_old < it.first_new && *key != it.key)
     }
 
     /// Returns whether an epoch of a state can have been seen so.
     pub(super) fn fits(&self, kept: &Kept) -> bool {
-        let is_watched = kept.body.epoch >= self.since;
+        let epoch = kept.body.epoch;
+        let is_between = self.changes.get(self.begun(epoch)).is_some_and(|it| it.last_old < epoch);
         match kept.seen {
-            Seen::Unwatched => !is_watched,
-            Seen::NewKey => is_watched && self.change.is_some(),
-            _ => is_watched,
+            None => epoch < self.since,
+            Some(seen) => epoch >= self.since && !(is_between && seen == Watched::Same),
         }
     }
 
@@ -222,42 +240,31 @@ impl Watch {
         }
         let size = it.byte()?;
         let name = it.take(size.into())?.to_vec();
-        let (since, key) = (it.u64()?, read_key(it)?);
-        let change = if kind == 2 { Some(Change { after: it.u64()?, by: it.u64()?, key: read_key(it)? }) } else { None };
-        let is_change = change.as_ref().is_none_or(|it| it.after < it.by && it.key != key);
-        if kind > 2 || name.is_empty() || !is_change {
+        let mut watch = Self { name, since: it.u64()?, key: read_key(it)?, changes: Vec::new() };
+        for _ in 0..it.u32()? {
+            watch.changes.push(Change::read(it)?);
+        }
+        if kind > 1 || watch.name.is_empty() || !watch.is_in_order() {
             return Err(Cause::StateForm);
         }
-        Ok(Some(Self { name, since, key, change }))
+        Ok(Some(watch))
     }
 
     pub(super) fn write(&self, state: &mut Vec<u8>) {
-        state.push(if self.change.is_some() { 2 } else { 1 });
+        state.push(1);
         // A name has at most 255 bytes.
         state.push(self.name.len() as u8);
         state.extend_from_slice(&self.name);
         state.extend_from_slice(&self.since.to_be_bytes());
         write_key(self.key.as_deref(), state);
-        if let Some(it) = &self.change {
-            state.extend_from_slice(&it.after.to_be_bytes());
-            state.extend_from_slice(&it.by.to_be_bytes());
+        // A change takes more than 20 bytes of memory, so that 2^32 of them are never kept.
+        state.extend_from_slice(&u32::try_from(self.changes.len()).unwrap_or(u32::MAX).to_be_bytes());
+        for it in &self.changes {
+            state.extend_from_slice(&it.last_old.to_be_bytes());
+            state.extend_from_slice(&it.first_new.to_be_bytes());
             write_key(it.key.as_deref(), state);
         }
     }
-}
-
-/// What a key that is not expected is.
-fn other(key: Option<&[u8]>) -> Seen {
-    if key.is_none() {
-        Seen::Absent
-    } else {
-        Seen::Changed
-    }
-}
-
-/// Returns whether this was seen at an epoch from one on and before another one.
-fn any_seen(kept: &Chain, seen: Seen, first: u64, end: u64) -> bool {
-    first < end && kept.range(first..end).any(|(_, it)| it.seen == seen)
 }
 
 /// Returns an expected key that the caller gives. No accepted proof shows an empty one.
@@ -278,11 +285,4 @@ fn write_key(key: Option<&[u8]>, state: &mut Vec<u8>) {
     // A key has less than 2^32 bytes.
     state.extend_from_slice(&(key.len() as u32).to_be_bytes());
     state.extend_from_slice(key);
-}
-
-/// The new key of a change that is over becomes the key.
-pub(super) fn settle(kept: &mut Chain) {
-    for it in kept.values_mut().filter(|it| it.seen == Seen::NewKey) {
-        it.seen = Seen::Key;
-    }
 }
