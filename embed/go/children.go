@@ -173,6 +173,10 @@ func (it *children) answers(ctx context.Context, lines [][]byte) (first [][]byte
 		}
 		first = told
 	}
+	if first == nil && len(lines) > 0 {
+		// None is left, and the error of one says why.
+		return answersOf(ctx, it.all[0].send(lines...))
+	}
 	return first, nil
 }
 

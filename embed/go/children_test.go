@@ -70,6 +70,18 @@ func (it *room) areAlike() {
 	}
 }
 
+// Lines that are asked of children of which none is left are an error, and no answers that differ from others.
+func TestNoneLeft(t *testing.T) {
+	it, _ := newPair(t)
+	children := it.provider.host.current().children
+	for _, pid := range it.provider.Pids() {
+		it.good(syscall.Kill(pid, syscall.SIGKILL))
+	}
+	children.await()
+	_, err := children.answers(background, [][]byte{latestLine})
+	it.wants(err, ErrProgramFailed)
+}
+
 // areAskedOnce checks that the signer was asked once for each body.
 func (it *room) areAskedOnce() {
 	it.t.Helper()
