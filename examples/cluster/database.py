@@ -26,6 +26,13 @@ def soon(call: Callable[[], object], seconds: float = 20) -> bool:
     return is_so
 
 
+def runs(process: str) -> bool:
+    """Whether a process has not ended."""
+    with suppress(FileNotFoundError, ProcessLookupError):
+        return Path(f"/proc/{process}/stat").read_text().rpartition(")")[2].split()[0] != "Z"
+    return False
+
+
 class Database(AbstractContextManager["Database"]):
     """A PostgreSQL in an empty folder, which can be killed and started again. Only its user and root reach the socket."""
 
@@ -60,18 +67,24 @@ class Database(AbstractContextManager["Database"]):
     def is_running(self) -> bool:
         return self._server.poll() is None
 
-    def send(self, number: int) -> None:
-        """Sends a signal to the processes that the server started."""
+    def send(self, number: int) -> list[str]:
+        """Sends a signal to the processes that the server started, and returns their numbers."""
+        started: list[str] = []
         with suppress(FileNotFoundError):
-            for it in Path(f"/proc/{self._server.pid}/task/{self._server.pid}/children").read_text().split():
-                with suppress(ProcessLookupError):
-                    os.kill(int(it), number)
+            started = Path(f"/proc/{self._server.pid}/task/{self._server.pid}/children").read_text().split()
+        for it in started:
+            with suppress(ProcessLookupError):
+                os.kill(int(it), number)
+        return started
 
     def kill(self) -> None:
-        """Kills the server and the processes that it started, as a crash of its machine does."""
-        self.send(signal.SIGKILL)
+        """Kills the server and the processes that it started, as a crash of its machine does, and waits until they have ended."""
+        # It starts no other one meanwhile.
+        self._server.send_signal(signal.SIGSTOP)
+        killed = self.send(signal.SIGKILL)
         self._server.kill()
         self._server.wait()
+        soon(lambda: not any(map(runs, killed)), 60)
 
     def stop(self) -> None:
         """Stops the server and the processes that it started, until `go_on`. It accepts connections, and answers none."""

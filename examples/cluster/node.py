@@ -4,7 +4,7 @@ from __future__ import annotations
 
 import multiprocessing
 import threading
-from contextlib import suppress
+from contextlib import ExitStack, suppress
 from typing import Any, Callable, Optional
 
 from coniks.postgres import PostgresLog
@@ -42,12 +42,15 @@ class Node:
 
 
 def serve(pipe: Any, make_log: MakeLog, program: str, keys: Any, is_writer: bool, replica: type[Replica]) -> None:
-    """Answers calls. The first one opens the directory; once it was overtaken, the next one opens a replica."""
+    """Answers calls. The first one opens the log and the directory, or returns why it can't; once it was overtaken, the next one opens
+    a replica."""
+    log: Optional[PostgresLog] = None
     opened: Optional[Directory] = None
-    with suppress(EOFError), make_log() as log:
+    with suppress(EOFError), ExitStack() as room:
         while True:
             (call, *arguments), answer = pipe.recv(), None
             try:
+                log = log or room.enter_context(make_log())
                 if not opened and is_writer:
                     settings = {"policy": keys.policy, "nonce": keys.nonce, "verify": keys.verify}
                     opened = Provider(program, keys.index, keys.signer(), log, **settings)

@@ -13,19 +13,27 @@ from keys import PublicKeys, is_signed
 from nacl.signing import SigningKey
 
 
-class Secrets:
-    """A provider's secret keys: they compute indices and signatures."""
+class Indices:
+    """The secret key of a VRF: it computes indices, and proves them."""
 
-    def __init__(self, signing: bytes, vrf: bytes):
-        self._signer, self._vrf = SigningKey(signing), vrf
-        self.keys = PublicKeys(bytes(self._signer.verify_key), ecvrf.public_key(vrf))
-        self.policy = self.keys.policy
+    def __init__(self, vrf: bytes):
+        self._vrf = vrf
 
     def proof(self, name: str) -> bytes:
         return ecvrf.prove(self._vrf, name.encode())
 
     def index(self, name: str) -> bytes:
         return ecvrf.output(self.proof(name))[:32]
+
+
+class Secrets(Indices):
+    """A provider's secret keys: they compute indices and signatures."""
+
+    def __init__(self, signing: bytes, vrf: bytes):
+        super().__init__(vrf)
+        self._signer = SigningKey(signing)
+        self.keys = PublicKeys(bytes(self._signer.verify_key), ecvrf.public_key(vrf))
+        self.policy = self.keys.policy
 
     def sign(self, body: bytes) -> bytes:
         return self._signer.sign(body).signature

@@ -16,10 +16,12 @@ from .faults import (
     ChildrenDiffer,
     Closed,
     Fault,
+    LogFailed,
     LogForked,
     NoDirectory,
     NotText,
     OtherIndex,
+    Overtaken,
     ProgramFailed,
     ProviderError,
     ReplayDiffers,
@@ -72,6 +74,15 @@ class Directory(Closing):
 
     @staticmethod
     def _needed(broken: Exception) -> RestartNeeded:
+        if isinstance(broken, LogFailed) and broken.is_final:
+            # A restart would read the same log.
+            return RestartNeeded(f"a new provider is needed, over the log that is opened again: {broken}")
+        if isinstance(broken, OtherIndex):
+            return RestartNeeded(
+                f"restart() is needed once index returns the right bytes, or a new provider with another index: {broken}"
+            )
+        if isinstance(broken, Overtaken):
+            return RestartNeeded(f"this provider adds nothing more, unless restart() takes the log back: {broken}")
         return RestartNeeded(f"restart() is needed: {broken}")
 
     def _change(self, work: Callable[[], Result]) -> Result:

@@ -12,6 +12,7 @@ from typing import Any, Callable, Iterable, Iterator, Mapping, NamedTuple, Optio
 
 from . import BODY_LENGTH, ENTRY_LENGTH, Head
 from ._children import Children
+from ._files import cause
 from ._lines import SIGNATURE_LENGTH, Epoch, Index, Latest, Pending, digits, encoded, install_line, lookup_line
 from ._lines import latest_of, members_of, number, with_member
 from ._restoring import Restoring, link_of
@@ -160,7 +161,7 @@ class Engine:
         except ProviderError:
             raise
         except Exception as error:
-            raise LogFailed(f"the log can't be read: {type(error).__name__}. Repair it, and start again") from error
+            raise LogFailed(f"the log can't be read: {cause(error)}. Repair it, and start again") from error
 
     def _compare_snapshot(self) -> None:
         """Compares the snapshot with the line before its position, which has its link, unless that line was dropped."""
@@ -213,7 +214,7 @@ class Engine:
             epoch = self._installed(digits(said, "signature", SIGNATURE_LENGTH, LogFailed), told)
             self._settle(epoch, self.position + 1)
         else:
-            raise LogFailed(f"{what} is none of a provider: give the path of a log")
+            raise LogFailed(f"{what} is none of a provider: look what wrote it, and restore the log without it")
         self.position += 1
 
     def _check_abandons(self, said: Mapping[str, Any], what: str) -> None:
@@ -283,7 +284,9 @@ class Engine:
         numbers = epoch.to_bytes(8, "big") + self.latest.epoch.to_bytes(8, "big")
         if body[1:81] != numbers + root + self.latest.link or body[113:] != self._setting.policy:
             self.children.distrust()
-            raise ProgramFailed(f"the body of epoch {epoch} doesn't follow the entry of epoch {self.latest.epoch}")
+            raise ProgramFailed(
+                f"the body of epoch {epoch} doesn't follow the entry of epoch {self.latest.epoch}: look which program it is"
+            )
         return Pending(epoch, root, body)
 
     def _prepared(self, update: Update) -> None:
@@ -348,7 +351,7 @@ class Engine:
         except LogFailed:
             raise
         except Exception as error:
-            raise LogFailed(f"the log can't be written: {type(error).__name__}. Repair it, then restart") from error
+            raise LogFailed(f"the log can't be written: {cause(error)}. Repair it, then restart") from error
         self.position += 1
 
     def _installed(self, signature: bytes, told: Mapping[str, Any]) -> Epoch:
@@ -358,7 +361,7 @@ class Engine:
         epoch = Epoch(number(told, "epoch"), root, link, entry)
         if not pending or (epoch.epoch, root, entry) != (pending.epoch, pending.root, pending.body + signature):
             self.children.distrust()
-            raise ProgramFailed(f"the entry of epoch {epoch.epoch} isn't what was signed")
+            raise ProgramFailed(f"the entry of epoch {epoch.epoch} isn't what was signed: look which program it is")
         return epoch
 
     def _settle(self, epoch: Epoch, position: int) -> None:

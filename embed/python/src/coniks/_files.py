@@ -11,12 +11,21 @@ import time
 from contextlib import suppress
 from typing import Callable, Iterator, Optional, Union
 
-from .faults import LogFailed, LogRefused
+from .faults import LogFailed, LogRefused, ProviderError
 
 Path = Union[str, "os.PathLike[str]"]
 CHUNK = 1 << 20
 _LOCK_SECONDS = 1
 _FLAGS = os.O_CLOEXEC | os.O_NONBLOCK | os.O_NOCTTY
+
+
+def cause(error: Exception) -> str:
+    """What an error that a log raised says. The text of one that isn't of the machine may have a line, so its class is named."""
+    if isinstance(error, ProviderError):
+        return str(error)
+    if isinstance(error, OSError) and error.strerror:
+        return error.strerror
+    return f"it raised {type(error).__name__}, which is the cause of this error"
 
 
 def opened_at(path: Path, flags: int, mode: str = "r+") -> io.FileIO:
@@ -72,7 +81,7 @@ def chunks_of(file: int, at: int, end: int, what: str) -> Iterator[bytes]:
         try:
             chunk = os.pread(file, min(CHUNK, end - at), at)
         except OSError as error:
-            raise LogFailed(f"{what} can't be read: {error.strerror}") from error
+            raise LogFailed(f"{what} can't be read: {error.strerror}. Repair that, and try again") from error
         if not chunk:
             raise LogFailed(f"{what} was cut by another process: compare it with a backup, and open it again")
         at += len(chunk)

@@ -5,9 +5,10 @@ from __future__ import annotations
 import socket
 import threading
 import time
-from contextlib import closing
+from contextlib import closing, suppress
 from dataclasses import dataclass
 from http.client import HTTPConnection, HTTPException, HTTPSConnection
+from ipaddress import ip_address
 from typing import Iterator, Mapping, Optional
 from urllib.parse import urlsplit
 
@@ -63,6 +64,18 @@ def answered(url: str, most: int, body: Optional[bytes] = None, headers: Mapping
     if len(text) > most:
         raise Unusable(f"{url} has more than {most} bytes")
     return Answer(found.status, {name.lower(): it for name, it in found.getheaders()}, text)
+
+
+def check_token(url: str, token: str) -> None:
+    """Checks that nobody on the way reads a token that is sent to a URL: it is encrypted, or it stays on this host. Raises `Unusable`."""
+    parts = urlsplit(url)
+    is_private = not token or parts.scheme == "https" or parts.hostname == "localhost"
+    with suppress(ValueError):
+        is_private = is_private or ip_address(parts.hostname or "").is_loopback
+    if not is_private:
+        raise Unusable(
+            f"{url} is another host and has no TLS, so anyone on the way reads the token: give an https URL, or no token"
+        )
 
 
 def fetched(url: str, most: int = PAGE) -> bytes:

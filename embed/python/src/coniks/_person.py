@@ -10,12 +10,14 @@ from urllib.parse import quote
 
 from . import Policy
 from ._client_state import StateFile
-from ._http import Answer, Unusable, answered, check_time, new_entries
+from ._http import Answer, Unusable, answered, check_time, check_token, new_entries
 from ._telling import ALARM, UNVERIFIED, Telling
 from .client import Client, Found, Refusal
 from .notes import Auditor, BadNote
 from .vouching import Change, Place, Record, convicts, judged
 
+# The statuses by which a service asks who someone is.
+_WHO = (401, 403)
 # The most bytes of a reply, and the most requests for one while epochs pass.
 REPLY, TRIES = 1 << 15, 5
 
@@ -82,10 +84,15 @@ class Person:
     # The service.
 
     def ask(self, target: str, most: int, operation: Optional[bytes] = None) -> Answer:
-        headers = {"Authorization": f"Bearer {self.state['token']}"} if self.state["token"] else {}
-        if operation:
-            headers |= {"Content-Type": "application/json", "Prefer": "wait=20"}
-        return answered(self.state["service"] + target, most, operation, headers)
+        """The reply to a request. The token goes with operations, and with what is refused without it, such as an old epoch."""
+        url, token = self.state["service"], self.state["token"]
+        headers = {"Content-Type": "application/json", "Prefer": "wait=20"} if operation else {}
+        found = None if operation else answered(url + target, most)
+        if found is None or (found.status in _WHO and token):
+            check_token(url, token)
+            headers |= {"Authorization": f"Bearer {token}"} if token else {}
+            found = answered(url + target, most, operation, headers)
+        return found
 
     def got(self, target: str, most: int) -> bytes:
         found = self.ask(target, most)

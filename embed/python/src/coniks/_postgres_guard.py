@@ -11,7 +11,7 @@ import psycopg
 from psycopg.errors import DuplicateObject, DuplicateTable, UndefinedTable, UniqueViolation
 
 from ._session import Failure, Pool, Session
-from ._tables import BAD_NAME, CANCELLED, IS_UNSAFE, is_name, queries, refuse, state, unfit
+from ._tables import BAD_NAME, CANCELLED, REFUSED, is_name, is_unfit, queries, refuse, state, unfit
 from .faults import LogFailed
 from .guard import Guard, RecordFailed
 from .log import Closing
@@ -24,11 +24,11 @@ _SQL = {
     "create": "CREATE TABLE IF NOT EXISTS {table} (key text PRIMARY KEY, record text NOT NULL)",
     # Its bytes: a record that was changed by hand may be no text.
     "read": "SELECT convert_to(record, 'SQL_ASCII') FROM {table} WHERE key = %(key)s::text",
-    "insert": f"""INSERT INTO {{table}} (key, record) SELECT %(key)s::text, %(after)s::text WHERE NOT ({IS_UNSAFE})
+    "insert": f"""INSERT INTO {{table}} (key, record) SELECT %(key)s::text, %(after)s::text WHERE NOT {is_unfit(_UNFIT)}
         ON CONFLICT DO NOTHING RETURNING true""",
     # No record gets the text again that it had before, so a try that PostgreSQL executes late changes nothing.
     "update": f"""UPDATE {{table}} SET record = %(after)s::text
-        WHERE key = %(key)s::text AND record = %(before)s::text AND NOT ({IS_UNSAFE}) RETURNING true""",
+        WHERE key = %(key)s::text AND record = %(before)s::text AND NOT {is_unfit(_UNFIT)} RETURNING true""",
 }
 
 
@@ -125,7 +125,11 @@ class PostgresGuard(Guard, Closing):
 
     def _store(self, session: Session, row: dict[str, Any]) -> bool:
         session.warned.clear()
-        rows = self._rows(session, "insert" if row["before"] is None else "update", row)
+        try:
+            rows = self._rows(session, "insert" if row["before"] is None else "update", row)
+        except REFUSED:
+            self._check(session)
+            raise
         if session.warned:
             # As after a lost connection: the guard finds what this try has stored, stores it again, and waits for the standby.
             raise psycopg.OperationalError(CANCELLED)

@@ -41,7 +41,7 @@ _SQL = {
     "writable": first_wrong(_UNWRITABLE),
     "create": "CREATE TABLE IF NOT EXISTS {table} (number bigint PRIMARY KEY, line bytea NOT NULL)",
     "is_there": "SELECT to_regclass({name}) IS NOT NULL",
-    # One snapshot is stored at a time. Others read the old one meanwhile.
+    # One snapshot is stored at a time. Others read the old one meanwhile. What would make the table unfit waits for the lock.
     "lock": "LOCK TABLE {table} IN SHARE ROW EXCLUSIVE MODE",
     "header": "SELECT number, line FROM {table} ORDER BY number LIMIT 1",
     # A number is left out, so that a reader notices a snapshot that took the place of the one that it reads.
@@ -120,7 +120,6 @@ class SnapshotTable:
             raise Failure(f"its name is too long for a second table beside it: use one of at most {_LONGEST} characters")
         self._check(session, "writable", _UNWRITABLE)
         self.create(session)
-        self._check(session, "fit", _UNFIT)
         failure = None
         try:
             session.execute(b"BEGIN")
@@ -137,6 +136,7 @@ class SnapshotTable:
 
     def _replace(self, session: Session, position: int, lines: Iterable[bytes]) -> None:
         session.execute(self._sql["lock"])
+        self._check(session, "fit", _UNFIT)
         self._check_later(session, position)
         [(first,)] = self._rows(session, self._sql["next"])
         for number, line in enumerate(lines, first):

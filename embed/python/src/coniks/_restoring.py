@@ -138,7 +138,7 @@ class Restoring:
         try:
             is_valid = verify(entry[:BODY_LENGTH], entry[BODY_LENGTH:])
         except Exception as error:
-            raise LogFailed(f"the signature of the snapshot's entry can't be verified: {type(error).__name__}") from error
+            raise LogFailed(f"verify failed for the entry of the snapshot: {error}. Repair it, and start again") from error
         if is_valid is not True:
             raise self._refused("has an entry whose signature isn't valid")
 

@@ -85,7 +85,7 @@ class _Life:
         self.owner, self.is_closed = owner, False
 
     def over(self) -> LogFailed:
-        return LogFailed(f"{self.owner} is closed: open it again")
+        return LogFailed.final(f"{self.owner} is closed: open it again")
 
 
 def _ready(socket: int, wants: Wait, until: float, life: _Life) -> Optional[Ready]:
@@ -209,7 +209,9 @@ class Pool:
     def run(self, until: float, call: Callable[..., Answer], *arguments: Any) -> Answer:
         """Returns what a call returns in a session. Raises `Failure` after an error of psycopg."""
         if os.getpid() != self._owner:
-            raise LogFailed(f"{self._life.owner} was opened by the process that this one was forked from: open it in this one")
+            raise LogFailed.final(
+                f"{self._life.owner} was opened by the process that this one was forked from: open it in this one"
+            )
         if self._life.is_closed:
             raise self._life.over()
         session, is_begun = self._taken(until), False

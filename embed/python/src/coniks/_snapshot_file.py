@@ -22,14 +22,14 @@ def stored(path: str, mode: int) -> Optional[tuple[int, Iterator[bytes]]]:
     except FileNotFoundError:
         return None
     except OSError as error:
-        raise LogFailed(f"the file {place} can't be opened: {error.strerror}") from error
+        raise LogFailed(f"the file {place} can't be opened: {error.strerror}. Repair that, and try again") from error
     file = opened.fileno()
     check_kind(file, mode, f"the file {place}")
     size = os.fstat(file).st_size
     try:
         header, end = os.pread(file, _MOST, 0), os.pread(file, _MOST, max(0, size - _MOST))
     except OSError as error:
-        raise LogFailed(f"the file {place} can't be read: {error.strerror}") from error
+        raise LogFailed(f"the file {place} can't be read: {error.strerror}. Repair that, and try again") from error
     if not end.endswith(b"\n") or not end[end.rfind(b"\n", 0, -1) + 1 :].startswith(LAST):
         raise refused(place, "is cut")
     return position_of(header.partition(b"\n")[0], place), _lines(opened, size, place)

@@ -5,6 +5,8 @@ from __future__ import annotations
 import re
 from typing import Any, Mapping
 
+from psycopg.errors import DatatypeMismatch, FeatureNotSupported, ObjectNotInPrerequisiteState, RaiseException, UndefinedColumn
+
 from ._session import Failure
 
 __all__ = [
@@ -12,9 +14,11 @@ __all__ = [
     "CANCELLED",
     "COLUMNS",
     "IS_UNSAFE",
+    "REFUSED",
     "Wrong",
     "first_wrong",
     "is_name",
+    "is_unfit",
     "queries",
     "refuse",
     "state",
@@ -27,6 +31,9 @@ Wrong = tuple[str, str]
 BAD_NAME = "a table is named `name` or `schema.name`, by at most 63 of the characters a to z, 0 to 9 and _: choose such a name"
 CANCELLED = "the wait of a commit for a synchronous standby was cancelled: let nothing cancel it"
 COLUMNS = "FROM pg_attribute WHERE attrelid = c.oid AND attnum > 0 AND NOT attisdropped"
+_TABLE = "FROM (VALUES (1)) AS one LEFT JOIN pg_class AS c ON c.oid = to_regclass({name})"
+# Errors of a statement that stores a row in a view, or in a table with other columns, rules or triggers.
+REFUSED = (DatatypeMismatch, FeatureNotSupported, ObjectNotInPrerequisiteState, RaiseException, UndefinedColumn)
 _UNSAFE: list[Wrong] = [
     ("current_setting('fsync') <> 'on'", "fsync is off, so a crash loses what was committed: set it to on and reload"),
     ("current_setting('full_page_writes') <> 'on'", "full_page_writes is off, so a crash can tear rows: set it to on and reload"),
@@ -50,9 +57,10 @@ def unfit(columns: Mapping[str, str], *more: Wrong) -> list[Wrong]:
     return [
         ("pg_is_in_recovery()", "the server is a standby: connect to the primary, as target_session_attrs=read-write does"),
         *_UNSAFE,
+        ("c.relkind <> 'r'", "it is no ordinary table: name another one"),
         (
-            "c.relkind <> 'r' OR EXISTS (SELECT FROM pg_inherits WHERE inhparent = c.oid)",
-            "it is no ordinary table, or others inherit from it: name another one",
+            "EXISTS (SELECT FROM pg_inherits WHERE inhparent = c.oid)",
+            "tables inherit from it, whose rows count as its own: ALTER TABLE .. NO INHERIT {table}",
         ),
         ("c.relpersistence <> 'p'", "it is unlogged or temporary, so a crash empties it: ALTER TABLE {table} SET LOGGED"),
         *more,
@@ -78,10 +86,13 @@ def unfit(columns: Mapping[str, str], *more: Wrong) -> list[Wrong]:
 def first_wrong(wrong: list[Wrong], more: str = "") -> str:
     """Returns a query for the number of the first condition that is true, the names in the texts, and more columns."""
     cases = " ".join(f"WHEN {it} THEN {number}" for number, (it, _) in enumerate(wrong))
-    names = "quote_ident(current_user), {schema}"
-    return (
-        f"SELECT CASE {cases} END, {names}{more} FROM (VALUES (1)) AS one LEFT JOIN pg_class AS c ON c.oid = to_regclass({{name}})"
-    )
+    return f"SELECT CASE {cases} END, quote_ident(current_user), {{schema}}{more} {_TABLE}"
+
+
+def is_unfit(wrong: list[Wrong]) -> str:
+    """Returns the condition that one of these is true, for a statement that stores a row. It sees each change of the table that was
+    committed before: the statement locks the table, and then takes its snapshot."""
+    return f"EXISTS (SELECT {_TABLE} WHERE {' OR '.join(it for it, _ in wrong)})"
 
 
 def state(wrong: list[Wrong]) -> str:

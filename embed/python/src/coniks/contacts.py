@@ -27,7 +27,7 @@ from urllib.parse import urlsplit
 from . import Body, Policy, __version__
 from ._client_state import StateFile
 from ._confirming import Agreement, Confirming
-from ._http import Unusable
+from ._http import Unusable, check_token
 from ._messages import Reply
 from ._own_names import OwnNames
 from ._person import Person, bare, key_text
@@ -165,6 +165,8 @@ class Commands:
         auditors = [it for it in state["auditors"] if it[0] not in given.remove_auditor]
         if len(auditors) + len(given.remove_auditor) > len(state["auditors"]):
             raise Unusable("no auditor has this URL: give one of " + ", ".join(url for url, _ in state["auditors"]))
+        service, token = given.service or state["service"], token_of(given.token) if given.token else state["token"]
+        check_token(service, token)
         auditors, faulty = trusted(given, person.policy, auditors + given.auditor, state["faulty"])
         is_alone = not auditors and (given.without_auditors or state["alone"])
         check_auditors(person.policy, auditors, faulty, is_alone)
@@ -172,9 +174,7 @@ class Commands:
             if name not in self._own.names:
                 raise Unusable(f"{shown(name)} is not watched")
             state["past"][name] = self._own.names.pop(name).members()
-        state |= {"auditors": auditors, "faulty": faulty, "alone": is_alone}
-        state |= {"service": given.service} if given.service else {}
-        state |= {"token": token_of(given.token)} if given.token else {}
+        state |= {"auditors": auditors, "faulty": faulty, "alone": is_alone, "service": service, "token": token}
         self._own.save()
         names = ", ".join(url for url, _ in auditors) or "none"
         person.tell(f"the service is {state['service']}, the auditors are {names}, of whom {faulty} may lie")
@@ -231,6 +231,7 @@ def begun(file: StateFile, given: argparse.Namespace) -> dict[str, Any]:
         policy, token = Policy.read(given.policy.read_bytes()), token_of(given.token)
     except ValueError as error:
         raise Unusable(str(error)) from error
+    check_token(given.service, token)
     auditors, faulty = trusted(given, policy, given.auditor, 0)
     check_auditors(policy, auditors, faulty, given.without_auditors)
     members = {"service": given.service, "auditors": auditors, "faulty": faulty, "alone": given.without_auditors}

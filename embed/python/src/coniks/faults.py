@@ -41,6 +41,7 @@ __all__ = [
     "Overtaken",
     "ProgramFailed",
     "ProviderError",
+    "RecordBehind",
     "ReplayDiffers",
     "RestartNeeded",
     "RootDiffers",
@@ -224,13 +225,28 @@ class SignerFailed(ProviderError):
     signer's record can't be read, and nothing is changed."""
 
 
+class RecordBehind(SignerFailed):
+    """The signer's record lacks the log's latest entry, as one that was lost or is from a backup. No body was prepared."""
+
+
 class ProgramFailed(ProviderError):
     """The program ended, took longer than the timeout, or printed what docs/FORMATS.md doesn't define. It is started again and
     replays the log by itself."""
 
 
 class LogFailed(ProviderError):
-    """The log could not be read or written, or is that of another directory. If it was written, the line may be stored."""
+    """The log could not be read or written, or is that of another directory. If it was written, the line may be stored.
+
+    `is_final` if later calls of this log fail too: open it again, and start a new provider over it."""
+
+    is_final = False
+
+    @classmethod
+    def final(cls, text: str) -> LogFailed:
+        """The error of a log that must be opened again."""
+        error = cls(text)
+        error.is_final = True
+        return error
 
 
 class LogRefused(LogFailed):
@@ -280,7 +296,8 @@ class SnapshotDiffers(ProviderError):
 
 
 class RestartNeeded(ProviderError):
-    """An earlier error, the cause, left open whether the log has a line. `restart` replays the log. Lookups go on."""
+    """An earlier error, the cause, left open whether the log has a line. `restart` replays the log, unless the text asks for a new
+    provider. Lookups go on."""
 
 
 class Closed(ProviderError):

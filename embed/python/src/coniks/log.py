@@ -35,6 +35,7 @@ _Self = TypeVar("_Self", bound="Closing")
 # How the first line of each log begins, and the one before the lines of a log whose first lines were dropped.
 _HEAD = b'{"cmd":"open"'
 _FIRST = re.compile(rb'\{"first":([1-9][0-9]{0,19})\}\n')
+_MOVED = "was moved or replaced while it was open: put it back, or open what is there now and start a new provider over it"
 # The line that opens a directory is shorter.
 _LONGEST_OPEN = 512
 
@@ -190,7 +191,7 @@ class FileLog(Closing):
         except BlockingIOError as error:
             raise LogFailed(f"another process has {self} open: one provider writes to it at a time") from error
         except OSError as error:
-            raise LogFailed(f"{self} can't be opened: {error.strerror}") from error
+            raise LogFailed(f"{self} can't be opened: {error.strerror}. Repair that, and try again") from error
         self._opened = found
 
     def _opened_file(self, flags: int) -> Optional[_Opened]:
@@ -294,7 +295,7 @@ class FileLog(Closing):
                 ) from error
             raise
         # Whoever opens the path now must find this line.
-        self._check_place(LogFailed, end + len(line) + 1)
+        self._check_place(LogFailed.final, end + len(line) + 1)
         self._opened = self._opened.extended(len(line) + 1)
         self._is_bad = False
 
@@ -315,14 +316,16 @@ class FileLog(Closing):
             os.ftruncate(self._opened.file.fileno(), end)
             os.fsync(self._opened.file.fileno())
         except OSError as error:
-            raise LogFailed(f"what an append to {self} left can't be dropped: {error.strerror}. Open the log again") from error
+            raise LogFailed.final(
+                f"what an append to {self} left can't be dropped: {error.strerror}. Open the log again"
+            ) from error
         self._is_bad = False
 
-    def _check_place(self, error: type[LogFailed], end: int) -> None:
+    def _check_place(self, error: Callable[[str], LogFailed], end: int) -> None:
         """Raises an error if the path has another file, or the file another length."""
         assert self._opened
         if identity_at(self._path) != self._opened.identity:
-            raise error(f"{self} was moved or replaced while it was open: put it back, and start again")
+            raise error(f"{self} {_MOVED}")
         if os.fstat(self._opened.file.fileno()).st_size != end:
             raise error(f"{self} was changed by another process: compare it with a backup, and open it again")
 
@@ -343,6 +346,8 @@ class FileLog(Closing):
             )
 
     def _lines(self, position: int, opened: _Opened) -> Iterator[bytes]:
+        # It may have been closed since the call of `read`.
+        self._check()
         number, start = opened.before(position)
         parts = [b""]
         for chunk in chunks_of(opened.file.fileno(), start, opened.end, str(self)):
@@ -389,7 +394,7 @@ class FileLog(Closing):
     def _check_identity(self) -> None:
         self._check_end()
         if self._opened and identity_at(self._path) != self._opened.identity:
-            raise LogRefused(f"{self} was moved or replaced while it was open: put it back, and start again")
+            raise LogRefused(f"{self} {_MOVED}")
 
     def drop_before(self, position: int) -> None:
         """Drops the lines below a position, at most that of the snapshot, which is synced first. The file is replaced as a whole:
@@ -446,14 +451,14 @@ class FileLog(Closing):
 
     def _check(self) -> None:
         if self._is_closed:
-            raise LogFailed(f"{self} is closed")
+            raise LogFailed.final(f"{self} is closed: open it again")
         if os.getpid() != self._owner:
-            raise LogFailed(f"{self} was opened by the process that this one was forked from: open it in one process alone")
+            raise LogFailed.final(f"{self} was opened by the process that this one was forked from: open it in one process alone")
 
     def _check_end(self) -> None:
         self._check()
         if self._is_bad:
-            raise LogFailed(f"{self} may end with a line that an append was interrupted in: open it again")
+            raise LogFailed.final(f"{self} may end with a line that an append was interrupted in: open it again")
 
     def close(self) -> None:
         """Closes the file, after an append that is under way. Another process can open it then."""

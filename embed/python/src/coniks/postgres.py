@@ -4,8 +4,8 @@
     guard = PostgresGuard("host=/run/postgresql dbname=guards", "keys.example.com", sign)
 
 Each line is a row of one table, whose primary key is the position. So PostgreSQL decides which of two writers gets a position.
-An append returns once its row is committed, and PostgreSQL must keep what it committed: a session is refused if its settings or
-the table let rows be lost. A second table, `TABLE_snapshot`, has the snapshot. docs/CLUSTER.md has what else a service needs.
+An append returns once its row is committed, and PostgreSQL must keep what it committed: a session and an append are refused if the
+settings or the table let rows be lost. A second table, `TABLE_snapshot`, has the snapshot. docs/CLUSTER.md has what else a service needs.
 """
 
 from __future__ import annotations
@@ -21,7 +21,7 @@ from psycopg.errors import DuplicateObject, DuplicateTable, UndefinedTable, Uniq
 from ._postgres_guard import PostgresGuard
 from ._postgres_snapshot import SnapshotTable
 from ._session import LOCKED, Failure, Pool, Session, reason
-from ._tables import BAD_NAME, CANCELLED, COLUMNS, IS_UNSAFE, Wrong, first_wrong, is_name, queries, refuse, state, unfit
+from ._tables import BAD_NAME, CANCELLED, COLUMNS, REFUSED, Wrong, first_wrong, is_name, is_unfit, queries, refuse, state, unfit
 from .faults import DirectoryExists, LinesDropped, LogFailed, LogRefused, NoDirectory, Overtaken
 from .log import Closing
 
@@ -65,7 +65,7 @@ _SQL = {
         WHERE (CASE %(position)s::bigint WHEN 0 THEN NOT EXISTS (SELECT FROM {{table}} WHERE position > 0)
             ELSE EXISTS (SELECT FROM {{table}}
                 WHERE position = %(position)s::bigint - 1 AND token = coalesce(%(before)b::bytea, token)) END)
-        AND NOT ({IS_UNSAFE}) RETURNING pg_notify({{name}}, position::text)""",
+        AND NOT {is_unfit(_UNFIT)} RETURNING pg_notify({{name}}, position::text)""",
     "is_mine": "SELECT token = %(token)b::bytea FROM {table} WHERE position = %(position)s::bigint",
     # At most 4 MiB, or one row.
     "read": """SELECT position, line, token FROM (SELECT *, sum(octet_length(line)) OVER (ORDER BY position) AS size
@@ -227,9 +227,6 @@ class PostgresLog(Closing):
         self._replicate(session)
 
     def _write(self, session: Session, row: dict[str, Any]) -> None:
-        if row["position"] == 0:
-            # The table may have been made after the session was checked.
-            self._check(session)
         session.warned.clear()
         try:
             rows = self._rows(session, "append", row)
@@ -238,6 +235,9 @@ class PostgresLog(Closing):
                 raise
             self._create(session)
             rows = self._rows(session, "append", row)
+        except REFUSED:
+            self._check(session)
+            raise
         if not rows:
             self._check(session)
             before = {"position": row["position"] - 1, "token": row["before"]}
@@ -310,13 +310,24 @@ class PostgresLog(Closing):
             self._replicate(session)
         return found
 
-    def _snapshot_lines(self, number: int) -> Iterator[bytes]:
+    def _snapshot_lines(self, first: int) -> Iterator[bytes]:
+        number = first
         while rows := self._do("read", self._pool, self._stored.page, number):
             for found, line in rows:
                 if found != number:
-                    raise LinesDropped(f"another snapshot of {self} took the place of the one that was read: read it again")
+                    raise self._lacks_row(first, number)
                 yield line
                 number += 1
+
+    def _lacks_row(self, first: int, number: int) -> LogFailed:
+        """The error of a snapshot that lacks a row before another one."""
+        header = self._do("read", self._pool, self._stored.header)
+        if header and header[0] == first:
+            return LogFailed(
+                f"the snapshot of {self} lacks row {number} before a later one: "
+                "restore its table from a standby or a backup, or empty it if the log still has all its lines"
+            )
+        return LinesDropped(f"another snapshot of {self} took the place of the one that was read: read it again")
 
     def compact(self, position: int, lines: Iterable[bytes]) -> None:
         """Stores a snapshot in one transaction. Raises `LogRefused` if it is certain that the older one stays, and `LogFailed` if

@@ -56,7 +56,8 @@ from typing import Callable, Iterable, Iterator, Optional, Sequence, TypeVar, Un
 
 from . import ENTRY_LENGTH, BODY_LENGTH, Head, _number, faults
 from ._directory import Directory, check_writable, counted, digest_of
-from ._engine import Engine, Record, Setting
+from ._engine import Engine, Record, Setting, epoch_of
+from ._files import cause
 from ._host import Evidence, Host
 from ._lines import SIGNATURE_LENGTH, Change, Epoch, Index, Latest, Lookup, Operation, Pending, Register, command, prepare_line
 from ._lines import sized
@@ -241,8 +242,8 @@ class Provider(Directory):
     ) -> Epoch:
         """Binds names to keys in a new epoch, and returns it once the log has its entry. A `nonce` rehashes the whole tree.
 
-        Raises a `Fault` if the program refuses the batch, and then nothing is changed by it. Raises `SignerFailed` if the signer
-        fails: the update stays pending, and `commit` with the same arguments, or `retry`, asks for the same body again.
+        Raises a `Fault` if the program refuses the batch, and then nothing is changed by it, nor by `RecordBehind`: the signer's
+        record lacks the latest entry. Raises `SignerFailed` if the signer fails: the update stays pending, and `commit` with the same arguments, or `retry`, asks for the same body again.
         Operations have a random opening: pass the same objects.
 
         With other operations under a later epoch, the pending update is signed and installed first, unless it is abandoned. If
@@ -265,8 +266,9 @@ class Provider(Directory):
         """Makes the update of a line the pending one, in the child and in the log, and has it signed and installed."""
         engine = self._ready()
         if engine.update and engine.update.is_of(line):
-            return self._settle(engine.update.pending.body)
+            return self._retry(engine.update.pending.body)
         self._check_number(epoch, engine, far, force)
+        self._check_recorded()
         if engine.update:
             self._settle_unless_abandoned()
         with self._host.changing:
@@ -286,6 +288,19 @@ class Provider(Directory):
         most = self._most_ahead() if latest else _FAR
         if epoch > latest + most and not far:
             raise EpochTooFar(epoch, latest, most)
+
+    def _check_recorded(self) -> None:
+        """Checks that the signer's record has the latest entry. Without it a guard refuses each body, so none is prepared."""
+        if not hasattr(self._sign, "signed"):
+            return
+        signed, latest = recorded(self._sign).signed, self._host.known.latest.epoch
+        last = epoch_of(signed) if signed else 0
+        if last < latest:
+            raise RecordBehind(
+                f"the signer's record {f'ends with epoch {last}' if last else 'has no signed entry'}, and the log has epoch {latest}: "
+                "put back the latest record. If it is lost, begin another one with the log's latest entry, by Guard(.., known=), once "
+                "it is certain that no later epoch was signed. Nothing was appended"
+            )
 
     def _most_ahead(self) -> int:
         """How far an epoch number may be above the latest one."""
@@ -375,9 +390,14 @@ class Provider(Directory):
             raise self._host.broken from refusal
 
     def retry(self) -> Epoch:
-        """Has the pending update signed, and installs it. Raises `NotPrepared` if there is none, and `SignerFailed` if it is
-        abandoned."""
-        return self._change(self._settle)
+        """Has the pending update signed, and installs it. Raises `NotPrepared` if there is none, `SignerFailed` if it is abandoned, and
+        `RecordBehind` if the signer's record lacks the latest entry."""
+        return self._change(self._retry)
+
+    def _retry(self, body: Optional[bytes] = None) -> Epoch:
+        if self._ready().update:
+            self._check_recorded()
+        return self._settle(body)
 
     def abandon(self) -> None:
         """Gives up the pending update: the signer abandons its body, and refuses it for ever. Then `commit` under a later epoch
@@ -443,9 +463,7 @@ class Provider(Directory):
         except ProviderError:
             raise
         except Exception as error:
-            raise LogFailed(
-                f"the snapshot can't be stored: {type(error).__name__}. Repair the log, and call compact again"
-            ) from error
+            raise LogFailed(f"the snapshot can't be stored: {cause(error)}. Repair the log, and call compact again") from error
         finally:
             if self._host.engine is not new:
                 self._host.end(new)

@@ -99,9 +99,10 @@ class Trapped(PostgresLog):
     steps that are left, and the signal. It is shared with another process."""
 
     def __init__(self, conninfo: str, trap: Any, patience: float) -> None:
+        # The handler is there before the database is asked for anything.
+        signal.signal(signal.SIGUSR1, interrupt)
         super().__init__(conninfo, patience=patience)
         self.trap = trap
-        signal.signal(signal.SIGUSR1, interrupt)
 
     def append(self, position: int, line: bytes) -> None:
         self._step()

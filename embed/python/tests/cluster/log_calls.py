@@ -5,11 +5,12 @@ from __future__ import annotations
 import threading
 import time
 import traceback
-from typing import Any, Callable
+from contextlib import contextmanager
+from typing import Any, Callable, Iterator
 from unittest import mock
 
 import psycopg
-from database import Database
+from database import Database, soon
 from raising import raises
 from coniks._session import Session
 from coniks.postgres import PostgresLog
@@ -17,6 +18,28 @@ from coniks.postgres import PostgresLog
 
 # Cancels what waits for a standby.
 CANCEL = "SELECT pg_cancel_backend(pid) FROM pg_stat_activity WHERE wait_event = 'SyncRep'"
+
+# Changes of a table with a primary key by which its rows could be lost, what undoes each, and what the error says.
+CHANGES = [
+    ("ALTER TABLE {table} SET UNLOGGED", "ALTER TABLE {table} SET LOGGED", "SET LOGGED"),
+    ("ALTER TABLE {table} DROP CONSTRAINT {table}_pkey", "ALTER TABLE {table} ADD PRIMARY KEY ({key})", "ADD PRIMARY KEY"),
+    ("ALTER TABLE {table} ADD more int", "ALTER TABLE {table} DROP more", "columns"),
+    (
+        "ALTER TABLE {table} ENABLE ROW LEVEL SECURITY",
+        "ALTER TABLE {table} DISABLE ROW LEVEL SECURITY",
+        "DISABLE ROW LEVEL SECURITY",
+    ),
+    ("CREATE TABLE {table}_child () INHERITS ({table})", "DROP TABLE {table}_child", "NO INHERIT"),
+    ("CREATE RULE loses AS ON INSERT TO {table} DO INSTEAD NOTHING", "DROP RULE loses ON {table}", "DROP RULE"),
+    ("CREATE RULE loses AS ON UPDATE TO {table} DO ALSO NOTHING", "DROP RULE loses ON {table}", "DROP RULE"),
+    (
+        """CREATE FUNCTION lose() RETURNS trigger LANGUAGE plpgsql AS
+            $$ BEGIN EXECUTE format('DELETE FROM %I', TG_TABLE_NAME); RETURN NULL; END $$;
+            CREATE TRIGGER loses AFTER INSERT OR UPDATE ON {table} FOR EACH ROW EXECUTE FUNCTION lose()""",
+        "DROP FUNCTION lose CASCADE",
+        "DROP TRIGGER",
+    ),
+]
 
 
 def says(what: str, error: type[Exception], call: Callable[[], object], *words: str, seconds: float = 5) -> str:
@@ -45,6 +68,32 @@ def asked(log: PostgresLog, query: str, pool: str = "_pool") -> Any:
 
 def lines(database: Database, table: str = "t") -> int:
     return int(database.execute(f"SELECT count(*) FROM {table}")[0][0])
+
+
+def changes(table: str, key: str) -> Iterator[tuple[str, str, str]]:
+    """`CHANGES` of a table."""
+    for change, back, word in CHANGES:
+        yield change.format(table=table), back.format(table=table, key=key), word
+
+
+@contextmanager
+def commits_once_waited_for(database: Database, change: str) -> Iterator[None]:
+    """Makes a change in a transaction, which is committed once a call waits for its lock."""
+    with psycopg.connect(database.conninfo) as other:
+        other.execute(change)
+
+        def commit() -> None:
+            if soon(lambda: database.execute("SELECT 1 FROM pg_locks WHERE NOT granted"), 3):
+                other.commit()
+            else:
+                other.rollback()
+
+        commits = threading.Thread(target=commit)
+        commits.start()
+        try:
+            yield
+        finally:
+            commits.join()
 
 
 def commits_wait(database: Database) -> bool:

@@ -18,7 +18,7 @@ import psycopg
 from database import USER, Database, soon
 from stand_ins import small_disk
 from raising import raises
-from log_calls import asked, lines, lost, says
+from log_calls import asked, changes, commits_once_waited_for, lines, lost, says
 from coniks.postgres import PostgresLog
 from coniks.provider import LogFailed, LogRefused, Overtaken
 
@@ -91,13 +91,47 @@ def test_tables(database: Database) -> None:
         assert [*log.read(0)] == [b"zero", b"one"], "tables: an older layout, after its advice"
         database.execute("CREATE TRIGGER same BEFORE UPDATE ON t EXECUTE FUNCTION suppress_redundant_updates_trigger()")
         says("tables: one that changed", LogRefused, log.check_writable, "DROP TRIGGER")
-    with PostgresLog(database.conninfo, "late") as log:
-        database.execute(f"CREATE UNLOGGED TABLE late ({COLUMNS})")
-        says("tables: one that comes after the log was opened", LogRefused, lambda: log.append(0, b"hunter2"), "SET LOGGED")
+    late = [
+        (f"CREATE UNLOGGED TABLE late ({COLUMNS})", "SET LOGGED"),
+        ("CREATE TABLE late (position bigint PRIMARY KEY, line bytea NOT NULL)", "older layout"),
+        ("CREATE VIEW late AS SELECT 0::bigint AS position, ''::bytea AS line, ''::bytea AS token", "ordinary"),
+    ]
+    for made, word in late:
+        with PostgresLog(database.conninfo, "late") as log:
+            database.execute(made)
+            says(f"tables: after the log was opened: {made}", LogRefused, lambda: log.append(0, b"hunter2"), word)
+        database.execute("DROP VIEW late" if "VIEW" in made else "DROP TABLE late")
     temporary = PostgresLog(f"{database.conninfo} options='-c search_path=pg_temp'", "other")
     says("tables: a temporary one", LogRefused, lambda: temporary.append(0, b"hunter2"), "temporary")
     temporary.close()
-    database.execute("DROP TABLE t;DROP TABLE late")
+    database.execute("DROP TABLE t")
+
+
+@pytest.mark.parametrize("count", [1, 12], ids=["new", "prepared"])
+def test_changed_tables(database: Database, count: int) -> None:
+    """A table that changes under a writer, whose session has appended some lines: before an append, and while one waits for it."""
+    with PostgresLog.create(database.conninfo, "t") as log:
+        stored = list[bytes]()
+
+        def append_some() -> None:
+            for _ in range(count):
+                log.append(len(stored), b"%d" % len(stored))
+                stored.append(b"%d" % len(stored))
+
+        renamed = ("ALTER TABLE t RENAME line TO other", "ALTER TABLE t RENAME other TO line", "columns")
+        for change, back, word in [*changes("t", "position"), renamed]:
+            append_some()
+            database.execute(change)
+            says(f"changed: {change}", LogRefused, lambda: log.append(len(stored), b"hunter2"), "table t", word)
+            database.execute(back)
+            # Another table may inherit from one in which a row is stored at the same time, and that row stays.
+            if word != "NO INHERIT":
+                append_some()
+                with commits_once_waited_for(database, change):
+                    says(f"changed meanwhile: {change}", LogRefused, lambda: log.append(len(stored), b"hunter2"), word)
+                database.execute(back)
+            assert [*log.read(0)] == stored, f"changed: no line is lost: {change}"
+    database.execute("DROP TABLE t, t_snapshot")
 
 
 def test_settings(database: Database) -> None:

@@ -22,7 +22,7 @@ from bodies import after, is_chain
 from database import Database, soon
 from guard_ends import Asker, restless, what_is_wrong
 from interrupts import interrupted_apart
-from log_calls import says
+from log_calls import changes, says
 from stand_ins import Salted, Signer, lines
 from coniks._session import Session
 from coniks.guard import BodyAbandoned, BodyRefused, BodySigned, GuardError, RecordFailed
@@ -151,6 +151,28 @@ def test_rows(database: Database) -> None:
         says("row: a lost row, and a first body", BodyRefused, lambda: row.guard(after(b"")), "new_directory=True")
         with row.open(known=row.last) as again:
             assert again.signed() == row.last and row.sign(after(row.last), again) == row.guard.signed(), "row: a known entry"
+
+
+def test_changed_tables(database: Database) -> None:
+    """A table that changes under a guard: before a body is recorded, and before its signature is."""
+    with Row(database, "changed", 1) as row:
+        for change, back, word in changes("coniks_guard", "key"):
+            body, used = after(row.last), row.used()
+            new = row.enter_context(
+                PostgresGuard(database.conninfo, f"{word} {used}".replace(" ", "-"), Salted().sign, new_directory=True)
+            )
+            database.execute(change)
+            says(f"row: {change}", RecordFailed, lambda: row.guard(body), word)
+            says(f"row: a first record: {change}", RecordFailed, lambda: new(after(b"")), word)
+            database.execute(back)
+            assert row.used() == used and row.other.asked() is None, f"row: nothing is signed, or recorded: {change}"
+            row.signer.before = lambda: database.execute(change)
+            says(f"row: the signature: {change}", RecordFailed, lambda: row.guard(body), word)
+            row.signer.before = None
+            database.execute(back)
+            assert row.other.asked() == body, f"row: the body stays open: {change}"
+            row.sign(body)
+        assert is_chain(row.entries), "row: one chain"
 
 
 def test_races(database: Database, seconds: float = 3) -> None:

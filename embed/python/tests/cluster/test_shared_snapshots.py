@@ -13,9 +13,10 @@ import pytest
 
 pytest.importorskip("psycopg")
 
+import psycopg
 from clusters import Cluster
 from database import Database, soon
-from log_calls import CANCEL, commits_wait, says
+from log_calls import CANCEL, changes, commits_once_waited_for, commits_wait, says
 from stand_ins import POLICY, children_of, index, kill_child, shown
 from raising import raises
 from coniks._engine import Engine
@@ -66,6 +67,13 @@ def test_table(database: Database) -> None:
         raises("table: it is replaced at the end", LinesDropped, lambda: [*lines])
         raises("table: a position that goes back", Overtaken, lambda: other.compact(4, [header(4)]))
         raises("table: a position that isn't there", ValueError, lambda: log.compact(9, [header(9)]))
+        log.compact(5, [header(5), *[b"%d" % it for it in range(40)]])
+        database.execute("CREATE TABLE kept AS SELECT * FROM stored_snapshot;DELETE FROM stored_snapshot WHERE line = '20'")
+        for _ in range(2):
+            _, lines = other.snapshot() or (0, iter(()))
+            says("table: a row that is missing", LogFailed, lambda: [*lines], "lacks row", "from a standby or a backup")
+        database.execute("DELETE FROM stored_snapshot;INSERT INTO stored_snapshot SELECT * FROM kept;DROP TABLE kept")
+        assert len([*(other.snapshot() or (0, []))[1]]) == 41, "table: a row that is restored"
         log.compact(5, [header(5), b"same"])
         position, lines = other.snapshot() or (0, iter(()))
         assert position == 5 and [*lines] == [header(5), b"same"], "table: the same position again"
@@ -146,6 +154,30 @@ def test_rights(database: Database) -> None:
     database.execute("CREATE RULE none AS ON INSERT TO rights_snapshot DO INSTEAD NOTHING")
     with PostgresLog(database.conninfo, "rights") as log:
         says("rights: a rule", LogRefused, lambda: log.compact(2, [header(2)]), "rules")
+
+
+def test_changed_tables(database: Database) -> None:
+    """A table that changes while a snapshot waits for it is refused. While one is stored, none of these changes can be made."""
+    with PostgresLog.create(database.conninfo, "changed") as log:
+        log.append(0, b"line")
+        log.compact(1, [header(1), b"old"])
+        for change, back, word in changes("changed_snapshot", "number"):
+
+            def change_meanwhile() -> Iterator[bytes]:
+                yield header(1)
+                raises(
+                    f"changed: while one is stored: {change}",
+                    psycopg.errors.LockNotAvailable,
+                    lambda: database.execute(f"SET lock_timeout = 10;{change}"),
+                )
+                yield b"new"
+
+            with commits_once_waited_for(database, change):
+                says(f"changed: {change}", LogRefused, lambda: log.compact(1, [header(1), b"lost"]), "changed_snapshot", word)
+            database.execute(back)
+            assert [*(log.snapshot() or (0, []))[1]] != [header(1), b"lost"], f"changed: the older one stays: {change}"
+            log.compact(1, change_meanwhile())
+            assert [*(log.snapshot() or (0, []))[1]] == [header(1), b"new"], f"changed: one is stored: {change}"
 
 
 def test_standby(database: Database) -> None:

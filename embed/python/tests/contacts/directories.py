@@ -42,6 +42,8 @@ class Directory(AbstractContextManager["Directory"]):
         self.note = b""
         self.asked: list[str] = []
         self.operations: list[dict[str, Any]] = []
+        # The paths that want a token, and those with which one came.
+        self.private, self.tokens = set[str](), list[str]()
         # Whether an operation is committed at once, and what refuses it.
         self.commits, self.refusal = True, ""
         directory = self
@@ -78,8 +80,11 @@ class Directory(AbstractContextManager["Directory"]):
         self.asked.append(handler.path)
         parts = urlsplit(handler.path)
         query = {name: it[0] for name, it in parse_qs(parts.query).items()}
-        lie = self.lies.get(parts.path)
+        lie, token = self.lies.get(parts.path), handler.headers["Authorization"]
+        self.tokens += [parts.path] if token else []
         reply = (lie(query) if lie else None) or self.honest(parts.path, query, body)
+        if parts.path in self.private and token != "Bearer a token":
+            reply = Reply(b'{"detail":"only the owner"}', 403)
         handler.send_response(reply.status)
         for name, value in {**self.headers, **reply.headers}.items():
             handler.send_header(name, value)

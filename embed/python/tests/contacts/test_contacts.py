@@ -493,6 +493,54 @@ def test_bad_urls(url: str, tmp_path: Path, capsys: pytest.CaptureFixture[str]) 
         assert ended.value.code == 2 and "a URL begins with http" in capsys.readouterr().err
 
 
+def test_token(person: Person, directory: Directory) -> None:
+    """The token goes with an operation, and with what is refused without it. Nothing else has it."""
+    assert person.run("register", "dave", "key one")[0] == 0 and directory.tokens == ["/v1/operations"]
+    directory.commit(4)
+    directory.commit(5)
+    for words in [["watch"], ["lookup", "alice"], ["compare"], ["verify", "dave", "key one"]]:
+        assert person.run(*words)[0] == 0 and "/v1/history" in "".join(directory.asked)
+    assert directory.tokens == ["/v1/operations"]
+    directory.commit(6)
+    directory.commit(7)
+    directory.private.add("/v1/history")
+    assert person.run("watch")[0] == 0 and directory.tokens[1:] == ["/v1/history"]
+    (person.room / "token").write_text("another token\n")
+    assert person.run("set", "--token", str(person.room / "token"))[0] == 0
+    directory.commit(8)
+    directory.commit(9)
+    status, lines = person.run("watch")
+    assert status == 3 and "only the owner" in lines[0]["text"]
+
+
+@pytest.mark.parametrize("host", ["0.0.0.0", "keys.example.com", "localhost.example.com", "127.0.0.1.example.com", "[::2]", "[::]"])
+def test_token_without_tls(host: str, person: Person, directory: Directory) -> None:
+    """A token goes over http to this host alone: neither `begin` nor `set` takes another one."""
+    url, kept = directory.url.replace("127.0.0.1", host), person.state.read_bytes()
+    empty, other = person.room / "empty", person.room / "other"
+    empty.write_text("")
+    status, lines = person.run("set", "--service", url)
+    assert status == 3 and "no TLS" in lines[0]["text"] and person.state.read_bytes() == kept
+    words = ["begin", "--service", url, "--policy", str(person.room / "policy"), "--without-auditors", "--state", str(other)]
+    status, lines = person.run(*words, "--token", str(person.room / "token"))
+    assert status == 3 and "no TLS" in lines[0]["text"] and not other.exists()
+    assert person.run("set", "--service", url, "--token", str(empty))[0] == 0
+    assert person.run("set", "--token", str(person.room / "token"))[0] == 3
+    for own in ["https://keys.example.com", "http://localhost:1", "http://127.1.2.3", "http://[::1]:8080", directory.url]:
+        assert person.run("set", "--service", own, "--token", str(person.room / "token"))[0] == 0
+
+
+def test_state_with_a_token_without_tls(person: Person, directory: Directory) -> None:
+    """A state that names another host over http sends no token, though the service refuses what comes without it."""
+    StateFile(person.state).write({**person.stored(), "service": directory.url.replace("127.0.0.1", "0.0.0.0")})
+    directory.private.add("/v1/lookup")
+    for words in [["register", "dave", "key one"], ["lookup", "alice"]]:
+        status, lines = person.run(*words)
+        assert status == 3 and "no TLS" in lines[0]["text"]
+    directory.private.clear()
+    assert person.run("register", "dave", "key one")[0] == 3 and not directory.operations and not directory.tokens
+
+
 def test_begun_at_a_wrong_place(tmp_path: Path, capsys: pytest.CaptureFixture[str], directory: Directory) -> None:
     """A service that isn't there leaves no state, which would be in the way of the right one."""
     it = Person(tmp_path, capsys)
@@ -601,6 +649,20 @@ def test_damaged_state(person: Person, directory: Directory) -> None:
     assert person.run("watch")[0] == 3 and len(directory.asked) == count
 
 
+def test_other_versions(person: Person, directory: Directory) -> None:
+    """A state that another version of coniks-client wrote isn't taken for a changed one, and is left as it is."""
+    whole, count = person.state.read_bytes(), len(directory.asked)
+    assert whole.startswith(b"coniks-client 2 ")
+    for version in (b"1", b"3"):
+        text = whole.replace(b" 2 ", b" %s " % version, 1)
+        person.state.write_bytes(text)
+        status, [line] = person.run("watch")
+        assert status == 3 and "of another version" in line["text"] and "changed" not in line["text"]
+        assert person.state.read_bytes() == text and len(directory.asked) == count
+    person.state.write_bytes(whole)
+    assert person.run("lookup", "alice")[0] == 0
+
+
 def test_begun_twice(person: Person, directory: Directory) -> None:
     """A state isn't overwritten, and one without quorum isn't made."""
     before = person.state.read_bytes()
@@ -618,7 +680,7 @@ def test_rights(person: Person) -> None:
     """The state has secret keys: nobody else reads it, whatever is in its place before. A symbolic link stays."""
     assert person.state.stat().st_mode & 0o777 == 0o600
     left = person.room / "state.new"
-    left.write_text("coniks-client 1 left")
+    left.write_text("coniks-client 2 left")
     left.chmod(0o666)
     assert person.run("lookup", "alice")[0] == 0 and person.state.stat().st_mode & 0o777 == 0o600 and not left.exists()
     person.state.rename(person.room / "real")

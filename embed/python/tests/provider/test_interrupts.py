@@ -171,25 +171,26 @@ def test_timers(program: str, children: int, rounds: int = 300) -> None:
     with tempfile.TemporaryDirectory() as room:
         stage, was = Stage(room, program, children), signal.getsignal(signal.SIGALRM)
         stage.commit()
-        count, is_well = 0, True
+        count, is_well, is_armed = 0, True, [False]
 
         def raises(*_: object) -> None:
-            raise Interrupt()
+            if is_armed[0]:
+                raise Interrupt()
 
+        signal.signal(signal.SIGALRM, raises)
         for turn in range(rounds):
             call = CALLS[chance.choice(["commit", "lookup", "lookups"])]
             try:
                 try:
-                    signal.signal(signal.SIGALRM, raises)
+                    is_armed[0] = True
                     signal.setitimer(signal.ITIMER_REAL, chance.uniform(1e-6, 2e-3), 2e-4 * (turn % 2))
                     call(stage)
                     time.sleep(0.003)
                 finally:
-                    signal.signal(signal.SIGALRM, signal.SIG_IGN)
+                    # No handler runs before this is done: Python calls one at calls and jumps.
+                    is_armed[0] = False
             except Interrupt:
                 count += 1
-            # A second one may have come before the handler was gone.
-            signal.signal(signal.SIGALRM, signal.SIG_IGN)
             signal.setitimer(signal.ITIMER_REAL, 0)
             if turn % 5 == 0 and not stage.goes_on():
                 is_well = False

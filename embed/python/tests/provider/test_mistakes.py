@@ -30,7 +30,8 @@ from coniks import provider
 from coniks.provider import Change, DirectoryExists, EpochNotLater, EpochSpent, EpochTooFar, FileLog, LogBehind, LogFailed
 from coniks.provider import LogForked
 from coniks.provider import LogRefused, Lookup, NoDirectory, OtherIndex, Overtaken, ProgramFailed, Provider, ProviderError, Register
-from coniks.provider import ReplayDiffers, RestartNeeded, SignerFailed, entries
+from coniks.guard import Guard
+from coniks.provider import RecordBehind, ReplayDiffers, RestartNeeded, SignerFailed, entries
 
 
 Call = Callable[[], object]
@@ -231,6 +232,19 @@ def test_moved(it: Service) -> None:
     it.refuses("a link that leads elsewhere", LogRefused, lambda: by_link.commit(99, []))
 
 
+def test_closed(it: Service) -> None:
+    """The log is closed under a provider. A restart can't help, since it has the same log."""
+    file_of(it.own).close()
+    it.refuses("a closed log: a commit", LogFailed, lambda: it.own.commit(3, []))
+    raised = raises("a closed log: the next one", RestartNeeded, lambda: it.own.commit(3, []))
+    assert "open" in str(raised) and "a new provider" in str(raised), f"a closed log: what helps: {raised}"
+    it.refuses("a closed log: restart", LogFailed, it.own.restart)
+    it.goes_on("a closed log")
+    it.own = it.opened()
+    it.commit(3)
+    it.is_one_chain("a closed log")
+
+
 def test_changed(it: Service) -> None:
     """The file is cut or written while it is open."""
     size = it.log.stat().st_size
@@ -347,6 +361,8 @@ def test_keys(it: Service) -> None:
     current[0] = other_index
     it.refuses("a key of the VRF that changes: a commit", OtherIndex, lambda: it.own.commit(3, [Change("alice", b"3")]))
     it.refuses("a key of the VRF that changes: restart", OtherIndex, it.own.restart)
+    raised = raises("a key of the VRF that changes: a commit then", RestartNeeded, lambda: it.own.commit(3, []))
+    assert "or a new provider with another index" in str(raised), f"a key of the VRF that changes: what helps: {raised}"
     it.refuses("a key of the VRF that changes: a lookup", RestartNeeded, lambda: it.own.lookup("alice"))
     current[0] = index
     it.own.restart()
@@ -375,6 +391,62 @@ def test_keys(it: Service) -> None:
     # By `printf 'key 1' | sha256sum`.
     digest = "227ba5f2c6c9109fe5c44a0696f393379607493a377f522ee27d9a7ae3227d89"
     assert json.loads(keyed.read_text())["vrf"] == digest, "the log has the digest of the VRF's public key"
+
+
+def test_lost_record(it: Service) -> None:
+    """The guard's record is lost, moved, or from a backup: no line is appended for a body that the guard would refuse."""
+    entry = it.own.chain()[-1]
+    it.stop()
+    it.own = it.opened(sign=guarded(it.signer, known=entry))
+    it.commit(3)
+    path = it.signer.file.with_name("guard")
+    old = path.read_bytes()
+    latest, log = it.commit(4).entry, it.log.read_bytes()
+    it.stop()
+    for what, record in [("a record that is lost", None), ("a record from a backup", old)]:
+        path.unlink(missing_ok=True)
+        if record:
+            path.write_bytes(record)
+        for again in range(2):
+            it.own = it.opened(sign=Guard(path, it.signer, verify=it.signer.verify))
+            it.refuses(f"{what}: a commit", RecordBehind, lambda: it.own.commit(5, [Change("alice", b"5")]))
+            assert it.log.read_bytes() == log and not it.own.pending, f"{what}: nothing is appended, at start {again}"
+            it.goes_on(what)
+            it.stop()
+    path.unlink()
+    it.own = it.opened(sign=guarded(it.signer, known=latest))
+    path.rename(path.with_suffix(".away"))
+    it.refuses("a record that is moved away: a commit", RecordBehind, lambda: it.own.commit(5, []))
+    assert it.log.read_bytes() == log, "a record that is moved away: nothing is appended"
+    path.with_suffix(".away").rename(path)
+    it.commit(5)
+    it.is_one_chain("a lost record")
+
+
+def test_lost_record_of_pending(it: Service) -> None:
+    """The guard's record is lost while an update is pending: it stays so, until another record begins with the latest entry."""
+    latest = it.own.chain()[-1]
+    it.stop()
+    it.own = it.opened(sign=guarded(it.signer, known=latest))
+    it.signer.fails = 1
+    batch = [Change("alice", b"3")]
+    it.refuses("a signer that fails", SignerFailed, lambda: it.own.commit(3, batch))
+    it.stop()
+    path, log = it.signer.file.with_name("guard"), it.log.read_bytes()
+    path.unlink()
+    it.own = it.opened(sign=Guard(path, it.signer, verify=it.signer.verify), sign_pending=False)
+    calls: dict[str, Call] = {
+        "the same commit": lambda: it.own.commit(3, batch),
+        "a later commit": lambda: it.own.commit(4, []),
+        "a retry": lambda: it.own.retry(),
+    }
+    for what, call in calls.items():
+        it.refuses(f"a record that is lost: {what}", RecordBehind, call)
+    assert it.log.read_bytes() == log and it.own.pending, "the update stays pending"
+    it.stop()
+    it.own = it.opened(sign=guarded(it.signer, known=latest))
+    it.commit(4)
+    it.is_one_chain("a lost record of a pending update")
 
 
 def test_signers(it: Service) -> None:

@@ -141,10 +141,11 @@ def test_late(program: str) -> None:
         assert stage.provider.commit(3, []).epoch == 3 and stage.is_one_chain(), "late: the update is settled then"
     for abandon in (None, lambda body: None):
         with staged(program) as stage:
-            own, sign = stage.provider, stage.provider._sign
+            own = stage.provider
+            sign: Any = own._sign
             if abandon:
                 # A signer that abandons each body.
-                own._sign = mock.Mock(side_effect=sign, abandon=abandon)
+                own._sign = mock.Mock(side_effect=sign, abandon=abandon, signed=sign.signed, asked=sign.asked)
             stage.log.before = of_kind(b"install", stopped(LogRefused("told to refuse: try again")))
             raises("late: an epoch that isn't logged", LogRefused, lambda: own.commit(2, []))
             raised = raises("late: it is signed", SignerFailed, own.abandon)

@@ -434,7 +434,7 @@ def test_ends(program: str) -> None:
         it.again()
         with mock.patch.object(it.log, "compact", side_effect=OSError(5, "told to fail")):
             raised = raises("ends: a log that raises another error", LogFailed, it.own.compact)
-            assert "OSError" in str(raised), f"ends: it names the error: {raised}"
+            assert "can't be stored: told to fail. " in str(raised), f"ends: it names the cause: {raised}"
     with tempfile.TemporaryDirectory() as room:
         signer = Signer(room, Salted())
         with opened(program, Bare(), signer, create=True) as own:

@@ -19,7 +19,7 @@ import pytest
 from stand_ins import Salted, Signer, audited, has_library, is_new, opened, small_disk
 from raising import raises
 from steps import STOPS, Stage, Stop, starts, stopped
-from coniks.provider import FileLog, LogFailed, LogRefused, Provider, ProviderError, Register, UnknownEpoch
+from coniks.provider import FileLog, LogFailed, LogRefused, Provider, ProviderError, Register, RestartNeeded, UnknownEpoch
 from coniks.provider import entries
 
 
@@ -122,6 +122,8 @@ def test_undone(program: str, name: str) -> None:
         assert told is None
         for _ in range(2):
             raises("a restart", LogFailed, lambda: stage.start_again("restart"))
+        raised = raises("a commit", RestartNeeded, stage.provider.retry)
+        assert "a new provider" in str(raised) and "restart()" not in str(raised), f"what helps: {raised}"
         found = stage.provider.lookup("first")
         assert found.entry == stage.first.entry, "lookups go on"
         stage.start_again("new")

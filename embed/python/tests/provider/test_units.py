@@ -517,15 +517,24 @@ def test_logs(program: str) -> None:
             assert own.latest().epoch == 2 and it.signer.is_asked_once() and len(log.lines) == 5, "a log that ends before `install`"
             log.lines.append(b"another provider's")
             raises("a log that was overtaken", provider.Overtaken, lambda: own.commit(3, []))
-            raises("a log that was overtaken: the next commit", provider.RestartNeeded, lambda: own.commit(3, []))
+            raised = raises("a log that was overtaken: the next commit", provider.RestartNeeded, lambda: own.commit(3, []))
+            assert "adds nothing more, unless restart()" in str(raised), f"a log that was overtaken: what helps: {raised}"
             raises("a log that was overtaken: retry", provider.RestartNeeded, own.retry)
             assert own.lookup("alice").epoch == 2 and len(own.chain()) == 2, "a log that was overtaken: lookups go on"
             log.lines.pop()
             own.restart()
             assert own.commit(3, []).epoch == 3, "a log that was overtaken: restart"
             assert it.signer.is_asked_once() and len(it.signer.asked()[3]) == 1, "a log that was overtaken: no body"
-        setattr(log, "read", lambda position: 1 // 0)
-        raises("a log that can't be read", provider.LogFailed, lambda: start(log))
+        for broken, word in [(OSError(28, "No space left"), "No space left. "), (ValueError("hunter2"), "ValueError, which is")]:
+            failing = OneLine()
+            for call, said in [("read", "the log can't be read"), ("append", "the log can't be written")]:
+                with mock.patch.object(failing, call, side_effect=broken):
+                    raised = raises(said, provider.LogFailed, lambda: start(failing))
+                assert str(raised).startswith(said) and word in str(raised) and "hunter2" not in str(raised), str(raised)
+        foreign = OneLine()
+        foreign.lines = [*whole, b'{"cmd":"latest"}']
+        raised = raises("a line that no provider writes", provider.LogFailed, lambda: start(foreign))
+        assert str(raised) == "line 5 of the log is none of a provider: look what wrote it, and restore the log without it"
         raises("a file that can't be made", provider.LogFailed, lambda: FileLog.create(it.room / "nowhere/log"))
 
 
@@ -558,6 +567,14 @@ def test_file() -> None:
             assert os.waitstatus_to_exitcode(os.waitpid(forked, 0)[1]) == 7, "a forked process can't append"
         raises("a closed log", provider.LogFailed, lambda: log.append(3, b""))
         raises("a closed log is read", provider.LogFailed, lambda: log.read(0))
+        raised = raises("a file for a folder", provider.LogFailed, lambda: FileLog(file / "log"))
+        assert str(raised).endswith("can't be opened: Not a directory. Repair that, and try again"), raised
+        with FileLog(file) as log:
+            Path(f"{file}.snapshot").symlink_to(f"{file}.snapshot")
+            raised = raises("a link to itself", provider.LogFailed, log.snapshot)
+            assert str(raised).endswith(". Repair that, and try again"), raised
+            lines = log.read(0)
+        raises("a log that is closed before its lines are read", provider.LogFailed, lambda: next(lines))
         raises("a log is made over a log", provider.DirectoryExists, lambda: FileLog.create(file))
         check_cut(file)
         check_opened(file)
