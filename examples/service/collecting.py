@@ -1,32 +1,40 @@
-"""Collects operations, and commits them each epoch. Whoever asked gets a receipt once the log has the epoch, and not before. Each
-operation is judged by the key that its name has at the epoch before its own."""
+"""Collects operations, and commits them each epoch, in their order. An operation is stored in the queue before its number is
+returned, and whoever asked gets a receipt once the log has its epoch. Each one is judged by the key that its name has at the epoch
+before its own."""
 
 from __future__ import annotations
 
 import asyncio
 import base64
 import secrets
+from bisect import bisect_left
 from concurrent.futures import ThreadPoolExecutor
 from contextlib import suppress
-from dataclasses import dataclass, field, replace
-from typing import Callable, Mapping, Optional, Sequence, TypeVar, Union
+from dataclasses import dataclass, replace
+from functools import partial
+from itertools import islice, takewhile
+from typing import Callable, Iterable, Mapping, Optional, Sequence, TypeVar, Union
 
 from authorising import Authorise, Request, check_promise
-from coniks.provider import EpochNotLater, EpochNotNow, EpochSpent, Fault, Lookup, Operation, Overtaken
-from coniks.provider import Provider, ProviderError, Register, RestartNeeded
-from holding import LOG, Holder, error_of
+from coniks.provider import Change, EpochNotLater, EpochNotNow, EpochSpent, Fault, Lookup, Operation, Overtaken
+from coniks.provider import Provider, ProviderError, RecordBehind, Register, RestartNeeded
+from holding import LOG, Holder, epoch_of, error_of
 from problems import Problem
+from queueing import Queue, Row
 
-# The most operations of a batch. No more are collected.
+# The most operations of a batch, and of those that wait.
 MOST = 4096
+MOST_WAITING = 4 * MOST
 # The seconds until the clock is read again, and the most until a commit that failed is tried again.
 _PAUSE, _LONGEST_PAUSE = 0.3, 5
+_KINDS: dict[str, type[Operation]] = {"register": Register, "change": Change}
 Result = TypeVar("Result")
 
 
 @dataclass(frozen=True)
 class Judged:
-    """An operation, the headers of whoever asks for it, and the name's key at an epoch, by which it is judged; None if it had none."""
+    """An operation, the headers of whoever asks for it, and the name's key at an epoch, by which it is judged; None if it had none.
+    The headers are not stored: an operation that is read from the queue has none."""
 
     operation: Operation
     headers: Mapping[str, str]
@@ -37,19 +45,36 @@ class Judged:
         """Whether it may be done. It is called in a thread."""
         return authorise(Request(self.operation.name, self.operation, self.present, self.headers))
 
+    def row(self, number: str) -> Row:
+        """What the queue stores of it."""
+        it = self.operation
+        return Row(number, type(it).__name__.lower(), it.name, it.key, it.opening, self.present, self.epoch)
+
+    @classmethod
+    def of(cls, row: Row) -> Judged:
+        return cls(_KINDS[row.op](row.name, row.key, row.opening), {}, row.present, row.judged)
+
+
+# The entry of the epoch that has an operation, once the log has that, or why it is refused. It is cancelled if the process ends before.
+Outcome = asyncio.Future[Union[bytes, Problem]]
+
 
 @dataclass(frozen=True)
 class Asked:
-    """An operation that was collected. Its outcome is the entry of the epoch that has it, once the log has that, or why it is
-    refused."""
+    """An operation that was collected. `stored` is whether the queue has it."""
 
+    number: str
     judged: Judged
-    outcome: asyncio.Future[Union[bytes, Problem]]
-    number: str = field(default_factory=lambda: secrets.token_urlsafe(18))
+    stored: asyncio.Future[bool]
+    outcome: Outcome
 
     @property
     def operation(self) -> Operation:
         return self.judged.operation
+
+    @property
+    def is_stored(self) -> bool:
+        return self.stored.done() and not self.stored.exception() and self.stored.result()
 
 
 class Collector:
@@ -61,15 +86,15 @@ class Collector:
         self.holder, self.authorise, self.failures = holder, authorise, 0
         # Whether the next epoch may be far from the latest one, since the directory stood still.
         self._is_late = is_late
-        # All that are remembered, by their numbers.
-        self.asked: dict[str, Asked] = {}
+        # What became of those that are remembered, by their numbers.
+        self.outcomes: dict[str, Outcome] = {}
         # Those that wait for an epoch, and the batch of an epoch, while it isn't known whether the log has it.
         self._waiting: dict[str, Asked] = {}
         self._batch: dict[str, Asked] = {}
         self._epoch: Optional[int] = None
         # One thread commits, so that lookups wait for none of it.
         self._thread = ThreadPoolExecutor(1, "commit")
-        self.is_over = False
+        self.is_over = self._has_read = False
 
     @property
     def pending(self) -> int:
@@ -81,7 +106,7 @@ class Collector:
         # An epoch that was committed meanwhile may have another key of the name.
         while judged.epoch < self.holder.directory.latest().epoch:
             judged = await self._judged(operation, headers)
-        return self.collect(judged)
+        return await self.collect(judged)
 
     async def _judged(self, operation: Operation, headers: Mapping[str, str]) -> Judged:
         """An operation that whoever asks may do, by the name's key of the latest epoch. Raises `Problem`."""
@@ -98,22 +123,45 @@ class Collector:
         unsigned = ", or the key is no record that the name's owner signed" * self.holder.keys.policy.records_vouched
         return Problem(403, "Forbidden", f"the credentials do not allow this{unsigned}")
 
-    def collect(self, judged: Judged) -> Asked:
-        """Takes an operation that is judged, or returns the one that asks for the same already. Raises `Problem`."""
-        operation = judged.operation
-        if other := self._waiting.get(operation.name) or self._batch.get(operation.name):
-            if (type(operation), operation.key) == (type(other.operation), other.operation.key):
-                return other
-            raise Problem(409, "NameWaits", "another operation of this name waits for its epoch: ask again after that")
-        if self.is_over or self.holder.provider is None:
-            raise Problem(503, "NoWriter", "this process takes no operations: look the name up, and send it again to the writer")
-        if self.pending >= MOST:
-            raise Problem(503, "EpochFull", f"{MOST} operations wait for the next epoch: ask again after it", _PAUSE)
-        asked = Asked(judged, asyncio.get_running_loop().create_future())
-        self._waiting[operation.name] = self.asked[asked.number] = asked
-        if len(self.asked) > 4 * MOST:
-            del self.asked[next(iter(self.asked))]
+    async def collect(self, judged: Judged) -> Asked:
+        """Takes an operation that is judged, once the queue has it, or returns the one that asks for the same already. Raises
+        `Problem` and `QueueFailed`."""
+        asked = self._same(judged.operation) or self._new(judged)
+        # Whoever asks may go: it is stored, and committed, all the same.
+        if not await asyncio.shield(asked.stored):
+            raise name_waits()
         return asked
+
+    def _same(self, operation: Operation) -> Optional[Asked]:
+        """The operation of a name that waits, which must ask for the same."""
+        other = self._waiting.get(operation.name) or self._batch.get(operation.name)
+        if other and (type(operation), operation.key) != (type(other.operation), other.operation.key):
+            raise name_waits()
+        return other
+
+    def _new(self, judged: Judged) -> Asked:
+        """Has the queue store an operation."""
+        if self.is_over or self.holder.queue is None:
+            raise Problem(503, "NoWriter", "this process takes no operations: look the name up, and send it again to the writer")
+        if self.pending >= MOST_WAITING:
+            text = f"{MOST_WAITING} operations wait, of which an epoch takes {MOST}: ask again after the next one"
+            raise Problem(503, "QueueFull", text, self.holder.until_next())
+        number = secrets.token_urlsafe(18)
+        asked = self._remember(number, judged, self.holder.queue.put(judged.row(number)))
+        self._waiting[judged.operation.name] = asked
+        asked.stored.add_done_callback(partial(self._forget_unstored, asked))
+        return asked
+
+    def _remember(self, number: str, judged: Judged, stored: asyncio.Future[bool]) -> Asked:
+        self.outcomes[number] = outcome = asyncio.get_running_loop().create_future()
+        # They are decided in their order, so the first one is decided.
+        if len(self.outcomes) > 2 * MOST_WAITING:
+            del self.outcomes[next(iter(self.outcomes))]
+        return Asked(number, judged, stored, outcome)
+
+    def _forget_unstored(self, asked: Asked, _: object) -> None:
+        if not asked.is_stored:
+            del self._waiting[asked.operation.name], self.outcomes[asked.number]
 
     async def run(self) -> None:
         """Commits at each epoch, until it is cancelled. Raises `Overtaken` once another process writes, so that this one ends: it must
@@ -128,23 +176,24 @@ class Collector:
             await asyncio.sleep(min(_PAUSE * 2 ** min(self.failures, 9), _LONGEST_PAUSE))
 
     async def stop(self) -> None:
-        """Commits what is collected if the clock has another epoch, and refuses the rest."""
+        """Commits what is collected if the clock has another epoch. The rest stays in the queue."""
         if not self.is_over:
             self.is_over = True
             with suppress(Overtaken):
                 await self.commit()
-        refusal = Problem(503, "Stopped", "the service stopped before this epoch: look the name up, and send it again")
         for it in [*self._batch.values(), *self._waiting.values()]:
-            it.outcome.set_result(refusal)
+            it.outcome.cancel()
         self._thread.shutdown()
 
     async def commit(self) -> None:
         """Commits what is collected, if the clock has an epoch that the directory has not. An error leaves the batch for later."""
         try:
-            while (provider := self.holder.provider) and (epoch := self._next(provider)):
-                await self._judge(provider, epoch)
-                if not await self._refuses(provider, epoch):
-                    break
+            if (provider := self.holder.provider) and (queue := self.holder.queue):
+                while (epoch := await self._next(provider, queue)) and await self._refuses(provider, queue, epoch):
+                    pass
+                # A batch that was put back may have failed before.
+                if epoch and provider.latest().epoch < epoch:
+                    return
             self.failures = 0
         except Overtaken:
             self.is_over = True
@@ -153,19 +202,67 @@ class Collector:
             self.failures += 1
             # Once, and then ever more rarely.
             if self.failures.bit_count() == 1:
-                LOG.error("commit failed", extra=error_of(error, failures=self.failures))
+                way_out = {"if the record is lost": "serve adopt"} if isinstance(error, RecordBehind) else {}
+                LOG.error("commit failed", extra=error_of(error, failures=self.failures, **way_out))
 
-    def _next(self, provider: Provider) -> Optional[int]:
+    async def _next(self, provider: Provider, queue: Queue) -> Optional[int]:
         """The epoch of the batch. If there is none, that of the clock is begun if it is a new one."""
-        if self._epoch is None and (now := provider.epoch_now()) > provider.latest().epoch:
-            self._epoch, self._batch, self._waiting = now, self._waiting, {}
+        now = provider.epoch_now()
+        if not self._has_read or (self._epoch is None and now > provider.latest().epoch):
+            await self._read(provider, queue)
+            self._has_read = True
+        if self._epoch is None and now > provider.latest().epoch:
+            first = list(islice(takewhile(lambda it: it.is_stored, self._waiting.values()), MOST))
+            await queue.mark([it.number for it in first], now)
+            self._epoch, self._batch = now, {it.operation.name: self._waiting.pop(it.operation.name) for it in first}
         return self._epoch
+
+    async def _read(self, provider: Provider, queue: Queue) -> None:
+        """Takes what the queue has and this process doesn't know: at the start all of it, later what another writer has accepted."""
+        # What comes meanwhile is stored beside it.
+        rows = [it for it in await queue.others(set(self.outcomes)) if it.number not in self.outcomes]
+        entries = await self._run(entries_of, provider, rows) if rows else []
+        await queue.drop([row.number for row, entry in zip(rows, entries) if entry])
+        pending = provider.pending
+        for row, entry in zip(rows, entries):
+            stored: asyncio.Future[bool] = asyncio.get_running_loop().create_future()
+            stored.set_result(True)
+            asked = self._remember(row.number, Judged.of(row), stored)
+            if entry:
+                asked.outcome.set_result(entry)
+            elif pending and row.epoch == pending.epoch:
+                self._epoch, self._batch[row.name] = row.epoch, asked
+            else:
+                self._waiting[row.name] = asked
 
     def _run(self, call: Callable[..., Result], *arguments: object) -> asyncio.Future[Result]:
         """Makes a call in the thread that commits."""
         return asyncio.get_running_loop().run_in_executor(self._thread, call, *arguments)
 
-    async def _judge(self, provider: Provider, epoch: int) -> None:
+    async def _refuses(self, provider: Provider, queue: Queue, epoch: int) -> bool:
+        """Tries once to commit the batch, which is over once it is known whether the log has it. Returns whether the program refuses
+        one of its operations, so that the others are to be tried again."""
+        await self._judge(provider, queue, epoch)
+        batch, operations = self._batch, [it.operation for it in self._batch.values()]
+        try:
+            entry = await self._run(committed, provider, epoch, operations, self._is_late)
+        except Fault as fault:
+            if fault.position is None:
+                raise
+            await self._refuse(queue, operations[fault.position].name, Problem(409, type(fault).__name__, type(fault).said))
+            return True
+        if entry:
+            await queue.drop([it.number for it in batch.values()])
+            for it in batch.values():
+                it.outcome.set_result(entry)
+            self._is_late = False
+            LOG.info("epoch", extra={"members": {"epoch": epoch, "operations": len(batch)}})
+        else:
+            self._waiting = batch | self._waiting
+        self._batch, self._epoch = {}, None
+        return False
+
+    async def _judge(self, provider: Provider, queue: Queue, epoch: int) -> None:
         """Judges those of the batch again whose name may have another key since, and refuses those that aren't allowed any more."""
         latest = provider.latest().epoch
         old = [it for it in self._batch.values() if it.judged.epoch < latest < epoch]
@@ -173,29 +270,16 @@ class Collector:
             if judged.present == it.judged.present or await self._run(judged.is_allowed, self.authorise):
                 self._batch[it.operation.name] = replace(it, judged=judged)
             else:
-                self._batch.pop(it.operation.name).outcome.set_result(self._forbidden())
+                await self._refuse(queue, it.operation.name, self._forbidden())
 
-    async def _refuses(self, provider: Provider, epoch: int) -> bool:
-        """Tries once to commit the batch, which is over once it is known whether the log has it. Returns whether the program refuses
-        one of its operations, so that the others are to be tried again."""
-        batch, operations = self._batch, [it.operation for it in self._batch.values()]
-        try:
-            entry = await self._run(committed, provider, epoch, operations, self._is_late)
-        except Fault as fault:
-            if fault.position is None:
-                raise
-            refused = batch.pop(operations[fault.position].name)
-            refused.outcome.set_result(Problem(409, type(fault).__name__, type(fault).said))
-            return True
-        self._batch, self._epoch = {}, None
-        if entry:
-            self._is_late = False
-            for it in batch.values():
-                it.outcome.set_result(entry)
-            LOG.info("epoch", extra={"members": {"epoch": epoch, "operations": len(batch)}})
-        else:
-            self._waiting = batch | self._waiting
-        return False
+    async def _refuse(self, queue: Queue, name: str, problem: Problem) -> None:
+        """Refuses an operation of the batch. The queue drops it first: the batch that a start finds there is the one that is tried."""
+        await queue.drop([self._batch[name].number])
+        self._batch.pop(name).outcome.set_result(problem)
+
+
+def name_waits() -> Problem:
+    return Problem(409, "NameWaits", "another operation of this name waits for its epoch: ask again after that")
 
 
 def committed(provider: Provider, epoch: int, operations: Sequence[Operation], is_late: bool = False) -> Optional[bytes]:
@@ -225,6 +309,20 @@ def again(provider: Provider, judged: Sequence[Judged], epoch: int) -> list[Judg
         if isinstance(it, ProviderError):
             raise it
     return [replace(it, present=shown_key(its), epoch=epoch) for it, its in zip(judged, shown)]
+
+
+def entries_of(provider: Provider, rows: Iterable[Row]) -> list[Optional[bytes]]:
+    """The entries of the epochs that have operations of batches, each None if the log hasn't that epoch with this key."""
+    chain = provider.chain()
+
+    def entry_of(row: Row) -> Optional[bytes]:
+        at = bisect_left(chain, row.epoch or 0, key=epoch_of)
+        if at == len(chain) or epoch_of(chain[at]) != row.epoch:
+            return None
+        [shown] = provider.lookups([row.name], row.epoch)
+        return chain[at] if shown_key(shown) == row.key else None
+
+    return [entry_of(it) for it in rows]
 
 
 def shown_key(shown: Union[Lookup, ProviderError]) -> Optional[bytes]:

@@ -7,20 +7,23 @@ import base64
 import re
 import time
 from bisect import bisect_left, bisect_right
+from concurrent.futures import ThreadPoolExecutor
 from pathlib import Path
 from typing import Callable
+from weakref import WeakValueDictionary
 
 from aiohttp import web
 from aiohttp.typedefs import Handler
 from authorising import Request
-from collecting import Asked, Collector
+from collecting import Collector, Outcome
 from coniks.provider import Change, Fault, Operation, ProviderError, Register, UnknownEpoch
 from coniks.names import BadName
-from connections import LONGEST, Bounds, Connection, Rate
+from connections import LONGEST, Bounds, Connection, is_here, network_of
 from holding import LOG, epoch_of, error_of, link_of
 from observing import Metrics
 from prometheus_client import CONTENT_TYPE_LATEST, generate_latest
 from problems import Problem, json_reply, key_of, members_of, name_of, number_of, query_of
+from queueing import QueueFailed
 from stapling import Stapler
 
 BYTES, TEXT = "application/octet-stream", "text/plain; charset=utf-8"
@@ -37,6 +40,7 @@ _PARAMETERS = {
     "/v1/lookup": ["name", "epoch"],
     "/v1/history": ["name", "first", "last"],
 }
+_FOR_OPERATORS = ("/healthz", "/readyz", "/metrics")
 _FOR_EVER = "max-age=31536000, immutable"
 
 
@@ -45,8 +49,11 @@ class Endpoints:
 
     def __init__(self, collector: Collector, stapler: Stapler, metrics: Metrics, bounds: Bounds):
         self._collector, self._stapler, self._metrics = collector, stapler, metrics
-        self._holder, self._bounds, self._rate = collector.holder, bounds, Rate(bounds.rate)
+        self._holder, self._bounds = collector.holder, bounds
+        # One thread makes all histories, each of which takes as long as many lookups. Those of a network wait for one another.
+        self._thread, self._turns = ThreadPoolExecutor(1, "history"), WeakValueDictionary[str, asyncio.Lock]()
         self.app = web.Application(middlewares=[self._around], client_max_size=bounds.body)
+        self.app.on_response_prepare.append(self._count_unseen)
         self.app.add_routes(self.routes())
 
     def routes(self) -> list[web.RouteDef]:
@@ -74,16 +81,18 @@ class Endpoints:
         # It has no name of anyone.
         route = resource.canonical if resource else "none"
         try:
+            await self._count(request, route)
             if route == "/" or route.startswith("/v1/"):
-                proxied = request.headers.getall("X-Forwarded-For", [""])[-1].rpartition(",")[2].strip()
-                self._rate.count(proxied if self._bounds.is_behind_proxy else request.remote or "local")
                 request["query"] = query_of(request, *_PARAMETERS.get(route, ()))
             made = await asyncio.wait_for(handler(request), LONGEST)
         except ConnectionError:
             # The client has gone.
             raise
         except Exception as error:
-            made = self._problem_of(error).reply()
+            problem = self._problem_of(error)
+            made = problem.reply()
+            if problem.fault == "TooOften" and not self._bounds.is_behind_proxy:
+                made.force_close()
         made.headers.update({"X-Content-Type-Options": "nosniff", "Server": "coniks"})
         seconds = time.monotonic() - start
         self._metrics.seconds.labels(route, str(made.status)).observe(seconds)
@@ -91,6 +100,18 @@ class Endpoints:
         LOG.info("request", extra={"members": members | {"bytes": made.content_length}})
         request.protocol.replied()
         return made
+
+    async def _count(self, request: web.Request, route: str) -> None:
+        """Counts a request for its address, and waits for its turn. What operators ask on this host is free. Raises `Problem`."""
+        request["is_counted"] = True
+        address = self._bounds.address_of(request)
+        if route not in _FOR_OPERATORS or not is_here(address):
+            await asyncio.sleep(self._bounds.requests.count(address))
+
+    async def _count_unseen(self, request: web.Request, response: web.StreamResponse) -> None:
+        """Counts what aiohttp refuses by itself, such as an expectation."""
+        if "is_counted" not in request:
+            self._bounds.requests.note(self._bounds.address_of(request))
 
     def _problem_of(self, error: Exception) -> Problem:
         """What a client is told of an error."""
@@ -104,7 +125,7 @@ class Endpoints:
             return Problem(400, "Request", "the body is not as the headers say")
         if isinstance(error, Fault):
             return Problem(404 if isinstance(error, UnknownEpoch) else 400, type(error).__name__, error.said)
-        if isinstance(error, (ProviderError, asyncio.TimeoutError)):
+        if isinstance(error, (ProviderError, QueueFailed, asyncio.TimeoutError)):
             LOG.warning("unavailable", extra=error_of(error))
             return Problem(503, "Unavailable", "the directory can't be asked now: ask again", 1)
         self._metrics.unexpected.inc()
@@ -164,8 +185,22 @@ class Endpoints:
         if bisect_right(chain, last, key=epoch_of) - bisect_left(chain, first, key=epoch_of) > SPAN:
             raise Problem(400, "TooLong", f"a history has at most {SPAN} epochs: ask for fewer at once")
         await self._check_sight(request, name, first)
-        proof = await asyncio.to_thread(self._holder.keys.proof, name)
-        return reply(await asyncio.to_thread(self._holder.directory.history, name, proof, first, last), BYTES)
+        turn = self._turns.setdefault(network_of(self._bounds.address_of(request)), asyncio.Lock())
+        async with turn:
+            made = asyncio.get_running_loop().run_in_executor(self._thread, self._history, name, first, last)
+            return reply(await made, BYTES)
+
+    def _history(self, name: str, first: int, last: int) -> bytes:
+        """A history without the epochs that a snapshot has meanwhile had forgotten."""
+        holder, metrics, proof = self._holder, self._metrics, self._holder.keys.proof(name)
+        while True:
+            oldest = metrics.first
+            try:
+                return holder.directory.history(name, proof, max(first, epoch_of(holder.directory.chain()[oldest])), last)
+            except UnknownEpoch:
+                metrics.find_first()
+                if metrics.first == oldest:
+                    raise
 
     async def _check_sight(self, request: web.Request, name: str, epoch: int) -> None:
         """Checks that whoever asks may see an epoch of a name: each recent one, and the owner all."""
@@ -176,15 +211,16 @@ class Endpoints:
             raise Problem(403, "OldEpoch", f"only the owner of a name may see it before epoch {oldest}")
 
     async def operate(self, request: web.Request) -> web.Response:
-        return await told(request, await self._collector.take(await operation_of(request), request.headers))
+        asked = await self._collector.take(await operation_of(request), request.headers)
+        return await told(request, asked.number, asked.outcome)
 
     async def outcome(self, request: web.Request) -> web.Response:
-        asked = self._collector.asked.get(request.match_info["number"])
-        if asked is None:
+        number = request.match_info["number"]
+        if (outcome := self._collector.outcomes.get(number)) is None:
             raise Problem(
                 404, "UnknownOperation", "no such operation is known: look the name up, and ask again if it lacks the key"
             )
-        return await told(request, asked)
+        return await told(request, number, outcome)
 
     # What operators ask.
 
@@ -216,17 +252,17 @@ async def operation_of(request: web.Request) -> Operation:
     return kinds[members["op"]](name_of(members["name"]), key_of(members["key"]))
 
 
-async def told(request: web.Request, asked: Asked) -> web.Response:
+async def told(request: web.Request, number: str, decided: Outcome) -> web.Response:
     """The receipt of an operation, if it is decided as soon as the request wants it (RFC 7240), or where to ask for it."""
     wait = re.search(r"(?:^|,)\s*wait\s*=\s*([0-9]{1,4})\s*(?:[,;]|$)", request.headers.get("Prefer", ""), re.I)
-    await asyncio.wait([asked.outcome], timeout=min(int(wait[1]), LONGEST_WAIT) if wait else 0)
-    outcome = asked.outcome.result() if asked.outcome.done() else None
+    await asyncio.wait([decided], timeout=min(int(wait[1]), LONGEST_WAIT) if wait else 0)
+    outcome = decided.result() if decided.done() and not decided.cancelled() else None
     if isinstance(outcome, Problem):
         # A new one: an error that is raised again keeps the frames of each time.
         raise Problem(outcome.status, outcome.fault, str(outcome))
     stored = {"state": "stored", "epoch": epoch_of(outcome), "entry": outcome.hex()} if outcome else None
-    made = json_reply(stored or {"state": "waiting", "operation": asked.number}, 200 if stored else 202)
-    made.headers["Location"] = f"/v1/operations/{asked.number}"
+    made = json_reply(stored or {"state": "waiting", "operation": number}, 200 if stored else 202)
+    made.headers["Location"] = f"/v1/operations/{number}"
     return made
 
 

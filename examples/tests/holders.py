@@ -19,9 +19,15 @@ def made(
     """A holder over a new directory with one epoch. The clock has the next one."""
     start = int(time.time()) - period - 5
     make_keys(room / "keys", Terms("keys.example.com", start, period, 10 * period, records_vouched))
-    places = Places(str(room / "log"), str(room / "guard"), program)
-    holder: Any = Holder(places, Keys(room / "keys"), create=True)
-    holder.provider.commit(1, operations, force=True)
+    with opened(program, room, create=True) as holder:
+        holder.provider.commit(1, operations, force=True)
+        yield holder
+
+
+@contextmanager
+def opened(program: str, room: Path, create: bool = False) -> Iterator[Any]:
+    """A holder over the directory in a folder."""
+    holder = Holder(Places(str(room / "log"), str(room / "guard"), program), Keys(room / "keys"), create=create)
     try:
         yield holder
     finally:

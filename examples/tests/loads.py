@@ -39,11 +39,13 @@ class Plan:
 
 
 class Operation(NamedTuple):
-    """An operation and the epoch of its receipt, None if it has none: then it may be lost, or not."""
+    """An operation, the epoch of its receipt, None if it has none, and whether the service said that it is stored. One that has neither
+    may be lost, or not."""
 
     name: str
     key: bytes
     epoch: Optional[int]
+    is_accepted: bool
 
 
 class Seen(NamedTuple):
@@ -122,18 +124,19 @@ async def _write(url: str, op: str, names: Iterable[str], every: float) -> list[
 
 async def _operate(session: aiohttp.ClientSession, free: asyncio.Lock, op: str, name: str, key: bytes) -> Operation:
     """Makes one operation. Those of one name are made one after another."""
-    body = {"op": op, "name": name, "key": base64.b64encode(key).decode()}
-    headers = {"Authorization": "Bearer one token", "Prefer": "wait=20"}
+    body, is_accepted = {"op": op, "name": name, "key": base64.b64encode(key).decode()}, False
+    token = {"Authorization": "Bearer one token"}
     async with free:
         try:
-            async with session.post("/v1/operations", json=body, headers=headers) as found:
+            async with session.post("/v1/operations", json=body, headers=token) as found:
                 said = await found.json(content_type=None)
+                is_accepted = found.status in (200, 202)
                 while found.status == 202:
-                    found = await session.get(found.headers["Location"], headers=headers)
+                    found = await session.get(found.headers["Location"], headers={"Prefer": "wait=20"})
                     said = await found.json(content_type=None)
         except (OSError, aiohttp.ClientError, asyncio.TimeoutError, ValueError):
-            return Operation(name, key, None)
-        return Operation(name, key, said["epoch"] if found.status == 200 else None)
+            return Operation(name, key, None, is_accepted)
+        return Operation(name, key, said["epoch"] if found.status == 200 else None, is_accepted)
 
 
 def changes(plan: Plan) -> list[str]:
@@ -161,6 +164,17 @@ def check_receipts(port: int, operations: Sequence[Operation]) -> None:
     reader = Reader(port)
     for it in operations:
         assert it.epoch is None or reader.look_up(it.name, time.monotonic(), it.epoch).shown.key == it.key, it
+
+
+def check_accepted(port: int, operations: Sequence[Operation]) -> None:
+    """Checks that each operation that the service said is stored was committed: a name's key is that of the last one, or of one after it
+    of which nothing is known."""
+    reader, of_name = Reader(port), dict[str, list[Operation]]()
+    for it in operations:
+        of_name.setdefault(it.name, []).append(it)
+    for name, ordered in of_name.items():
+        last = max(at for at, it in enumerate(ordered) if it.is_accepted)
+        assert reader.look_up(name, time.monotonic()).shown.key in {it.key for it in ordered[last:]}, ordered[last:]
 
 
 def percentile(numbers: Iterable[float], of_hundred: float) -> float:

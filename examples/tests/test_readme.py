@@ -1,4 +1,5 @@
-"""Runs the commands of the README unchanged, in a copy of what git knows, over programs that are built already.
+"""Runs the commands of the README unchanged, in a copy of what git knows, over programs that are built already, and the first code of
+docs/GUIDE.md.
 
 Each `sh` and `python` block is run, and each code span that begins with `./`. The `text` block after a block is its output, in
 which `..` matches any text, and a line `..` any lines. A block without one must end with status 0. Commands that prove
@@ -12,21 +13,35 @@ import shutil
 import subprocess
 import sys
 import tempfile
+import textwrap
 from pathlib import Path
 from typing import Iterator, NamedTuple, Optional
 
 import pytest
 
 import tools
+from checkouts import ARCHIVE, TOP, copied, put_archive, put_program
 
-TOP = Path(__file__).resolve().parents[2]
 README = (TOP / "README.md").read_text("utf-8")
 BLOCK = re.compile(r"^```(\w+)\n(.*?)^```$", re.M | re.S)
 SPAN = re.compile(r"`(\./[^`]+)`")
-ARCHIVE = Path("crates/coniks_c/out/libconiks_c.a")
 
 # They prove, compile for a minute, or are what runs this script.
-NOT_RUN = ["./gate", "./gate quick", "./keydir --unproved run < examples/first.jsonl"]
+NOT_RUN = ["./gate", "./keydir --unproved run < examples/first.jsonl"]
+
+# The code of docs/GUIDE.md is indented. These sections make a directory and open it, with the code of GIVEN before them.
+INDENTED = re.compile(r"(?:^    .*\n|^\n(?=    ))+", re.M)
+SECTIONS = ["Indices from a VRF", "Signing keys", "The policy", "Batches and epochs"]
+GIVEN = """
+import sys; sys.path[:0] = ["embed/python/src", "examples/provider"]
+import ecvrf as vrf, nacl.signing, secrets, time
+secret_key, signing_key = secrets.token_bytes(32), nacl.signing.SigningKey.generate()
+vrf_public_key, key, other_key, new_key = vrf.public_key(secret_key), b"1", b"2", b"3"
+now = time.time
+def verify(body, signature): return signing_key.verify_key.verify(body, signature) == body
+def publish(document): pass
+"""
+NEXT_EPOCH = "time.time = lambda: now() + 3600\n"
 
 # The tool of scripts/tools.py that a block needs, by a text in the block.
 NEEDS = {"import ecvrf": "PyNaCl", "examples/provider/run": "PyNaCl", "embed/build": "a C compiler"}
@@ -49,37 +64,6 @@ def blocks() -> Iterator[Block]:
 
 
 BLOCKS = [*blocks()]
-
-
-def copied(room: Path) -> None:
-    """Copies what git knows or would add."""
-    words = ["git", "ls-files", "-z", "--cached", "--others", "--exclude-standard"]
-    named = subprocess.run(words, cwd=TOP, capture_output=True, check=True).stdout.decode().split("\0")
-    for it in named:
-        if it and (TOP / it).is_file():
-            (room / it).parent.mkdir(parents=True, exist_ok=True)
-            shutil.copy(TOP / it, room / it)
-
-
-def mark_built(room: Path, file: Path) -> None:
-    for word in ["begin", "end"]:
-        subprocess.run([room / "scripts/built", word, room / file], check=True)
-
-
-def put_program(room: Path, name: str, program: Path) -> None:
-    """Puts a program at the path that its launcher starts."""
-    file = Path(f"crates/{name}/out/{name}")
-    (room / file).parent.mkdir(exist_ok=True)
-    (room / file).write_text(f"#!/bin/sh\nexec '{program}' \"$@\"\n", "utf-8")
-    (room / file).chmod(0o755)
-    mark_built(room, file)
-
-
-def put_archive(room: Path) -> None:
-    if (TOP / ARCHIVE).is_file():
-        (room / ARCHIVE).parent.mkdir(exist_ok=True)
-        shutil.copy(TOP / ARCHIVE, room / ARCHIVE)
-        mark_built(room, ARCHIVE)
 
 
 def pattern_of(text: str) -> str:
@@ -106,6 +90,8 @@ def room(keydir: str, program: str) -> Iterator[Path]:
     with tempfile.TemporaryDirectory() as folder:
         room = Path(folder)
         copied(room)
+        for words in ["init --quiet", "add --all", "-c user.name=test -c user.email=test commit --quiet --message=copied"]:
+            subprocess.run(["git", *words.split()], cwd=room, check=True)
         put_program(room, "keydir", Path(keydir))
         put_program(room, "provider", Path(program))
         put_archive(room)
@@ -132,6 +118,32 @@ def test_block(room: Path, block: Block) -> None:
 @pytest.mark.parametrize("span", [it for it in SPAN.findall(README) if it not in NOT_RUN])
 def test_span(room: Path, span: str) -> None:
     check(room, "sh", span, None)
+
+
+def code_of(section: str) -> list[str]:
+    """The blocks of a section of docs/GUIDE.md."""
+    text = (TOP / "docs/GUIDE.md").read_text("utf-8").partition(f"\n## {section}\n")[2].partition("\n## ")[0]
+    return [textwrap.dedent(it).strip() + "\n" for it in INDENTED.findall(text)]
+
+
+def test_guide(room: Path) -> None:
+    """A reader of docs/GUIDE.md who runs each block gets a directory, and commits at the next epoch."""
+    if not tools.has("PyNaCl"):
+        pytest.skip("PyNaCl is missing")
+    *before, opens = [it for section in SECTIONS for it in code_of(section)]
+    for it in room.glob("names.*"):
+        it.unlink()
+    text = "".join(
+        [GIVEN, *before, NEXT_EPOCH, opens, "print([*coniks.provider.entries(FileLog('names.log'))][1:] == [made.entry])\n"]
+    )
+    ran = run(room, "python", text)
+    assert ran.returncode == 0 and ran.stdout == "True\n", ran.stdout + ran.stderr[-2000:]
+
+
+def test_leaves_nothing(room: Path) -> None:
+    """What the commands left in the checkout is ignored by git."""
+    left = subprocess.run(["git", "status", "--porcelain"], cwd=room, capture_output=True, text=True, check=True)
+    assert left.stdout == "", left.stdout
 
 
 def test_there_are_blocks() -> None:

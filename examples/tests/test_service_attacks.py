@@ -15,8 +15,9 @@ from concurrent.futures import ThreadPoolExecutor
 from contextlib import ExitStack, suppress
 from functools import partial
 from http.client import HTTPException
+from ipaddress import IPv4Address
 from itertools import count
-from typing import Callable, Iterator, Optional, Sequence
+from typing import Callable, Iterator, NamedTuple, Optional, Sequence
 
 import pytest
 
@@ -30,6 +31,8 @@ from services import TOKEN, Running, named, received_once, sent, until
 CONNECTIONS, PATIENCE = 300, "4"
 # How many random requests are under way at once.
 SENDERS = 32
+# Addresses of this host, one for each connection.
+ADDRESSES = map(str, map(IPv4Address, count(int(IPv4Address("127.1.0.1")))))
 MIB = 1 << 20
 GET = b"GET /v1/policy HTTP/1.1\r\nHost: a\r\n"
 POST = b"POST /v1/operations HTTP/1.1\r\nHost: a\r\nContent-Type: application/json\r\n"
@@ -54,8 +57,9 @@ def _memory(service: Running) -> Iterator[None]:
     assert not [it for it in service.lines() if it["level"] == "error"], service.errors.read_text()[-3000:]
 
 
-def connected(service: Running) -> socket.socket:
-    return socket.create_connection(("127.0.0.1", service.port), 60)
+def connected(service: Running, address: Optional[str] = None) -> socket.socket:
+    """A connection from an address, by default one that no other has."""
+    return socket.create_connection(("127.0.0.1", service.port), 60, (address or next(ADDRESSES), 0))
 
 
 def ends(connection: socket.socket) -> bool:
@@ -124,6 +128,75 @@ def test_one_connection_too_many(other: Running) -> None:
         assert not is_served(other) and not select.select(kept, [], [], 0)[0]
         kept[0].close()
         until(lambda: is_served(other))
+
+
+def test_connections_of_one_address(other: Running) -> None:
+    """An address has a part of all connections: those beyond end at once, while the others stay and others are served."""
+    other.start("--connections", "400", "--patience", "600")
+    with ExitStack() as opened:
+        kept = [opened.enter_context(connected(other, "127.0.0.2")) for _ in range(20)]
+        for _ in range(20):
+            with connected(other, "127.0.0.2") as refused:
+                assert ends(refused)
+        assert is_served(other) and not select.select(kept, [], [], 0)[0]
+        kept[0].close()
+        until(lambda: b"200 OK" in answered(other, "127.0.0.2", GET + b"\r\n"))
+        for _ in range(380):
+            opened.enter_context(connected(other))
+        until(lambda: not is_served(other))
+
+
+def test_connections_of_a_proxy(other: Running) -> None:
+    """The connections of a proxy are the proxy's to bound."""
+    other.start("--connections", "100", "--patience", "600", "--behind-proxy")
+    with ExitStack() as opened:
+        kept = [opened.enter_context(connected(other, "127.0.0.2")) for _ in range(90)]
+        assert is_served(other) and not select.select(kept, [], [], 0)[0]
+
+
+def answered(service: Running, address: str, part: bytes) -> bytes:
+    """What comes for a request from an address, nothing if the connection is refused."""
+    with suppress(OSError), connected(service, address) as connection:
+        sent(connection, part)
+        return replied(connection, 60)
+    return b""
+
+
+# Each is refused, or replied to, by another part of the service.
+COUNTED = {
+    "a policy": GET + b"\r\n",
+    "a page": b"GET / HTTP/1.1\r\nHost: a\r\n\r\n",
+    "an unknown route": b"GET /nothing HTTP/1.1\r\nHost: a\r\n\r\n",
+    "another method": b"DELETE /v1/policy HTTP/1.1\r\nHost: a\r\n\r\n",
+    "an unknown parameter": b"GET /v1/head?x=y HTTP/1.1\r\nHost: a\r\n\r\n",
+    "a bad token": POST + b"Content-Length: 2\r\n\r\n{}",
+    "a long body": POST + b"Content-Length: 40000\r\n\r\n" + b"x" * 40_000,
+    "a long line": b"GET /" + b"x" * 10_000 + b" HTTP/1.1\r\n\r\n",
+    "no HTTP": b"no HTTP\r\n\r\n",
+    "an expectation": GET + b"Expect: x\r\n\r\n",
+    "an expectation that is no text": GET + b"Expect: \xed\xa0\x80\r\n\r\n",
+    "a host that is no text": b"CONNECT /v1/h\xc3\xa9ad HTTP/1.1\r\nHost: a\r\n\r\n",
+}
+
+
+def test_refusals_count(other: Running) -> None:
+    """A request counts for its address whatever it is, and an address that asks on and on is not replied to."""
+    other.start("--rate", "2")
+
+    def is_refused(address: str, part: bytes) -> bool:
+        for _ in range(10):
+            answered(other, address, part)
+        return b" 200 OK" not in answered(other, address, GET + b"\r\n")
+
+    def is_dropped(address: str, part: bytes) -> bool:
+        return [answered(other, address, part) for _ in range(18)][-1] == b""
+
+    for number, part in enumerate(COUNTED.values()):
+        address = f"127.0.2.{number}"
+        # Another time begins now and then.
+        until(lambda: is_refused(address, part))
+        until(lambda: is_dropped(address, part))
+    assert b" 200 OK" in answered(other, "127.0.0.2", GET + b"\r\n")
 
 
 def test_ten_thousand_connections(other: Running) -> None:
@@ -197,6 +270,16 @@ def test_bombs(service: Running, parts: list[bytes], status: Optional[bytes]) ->
     assert not found or found[1] != b"500"
 
 
+def test_endless_body(service: Running) -> None:
+    """What is sent after a reply isn't read: it fills the buffers of both sides, and no more is taken."""
+    total, end = 0, time.monotonic() + 30
+    with suppress(OSError), connected(service) as connection:
+        connection.sendall(POST + b"Transfer-Encoding: chunked\r\n\r\nFFFFFFFF\r\n")
+        while time.monotonic() < end:
+            total += connection.send(LONG)
+    assert total < 32 * MIB
+
+
 def test_slow_body(service: Running) -> None:
     """A body that comes slowly costs nobody else anything."""
     with connected(service) as connection:
@@ -257,10 +340,22 @@ def well_formed(draw: random.Random, target: str) -> bytes:
     return POST + b"Authorization: Bearer %b\r\nContent-Length: %d\r\n\r\n%b" % (TOKEN.encode(), len(body), body)
 
 
-def drawn(draw: random.Random, target: str) -> bytes:
+class Request(NamedTuple):
+    """A request, and whether its head is as it should be: then it has a reply."""
+
+    part: bytes
+    is_well_formed: bool
+
+
+def drawn(draw: random.Random, target: str) -> Request:
     """A random request of an endpoint."""
     if draw.random() < 0.5:
-        return well_formed(draw, target)
+        return Request(well_formed(draw, target), True)
+    return Request(malformed(draw, target), False)
+
+
+def malformed(draw: random.Random, target: str) -> bytes:
+    """A request whose head may be any."""
     lines = [f"{draw.choice(METHODS)} {mutated(draw, target)} HTTP/1.{draw.choice('11110')}"]
     lines += [mutated(draw, it) if draw.random() < 0.2 else it for it in ["Host: a", *draw.sample(HEADERS, draw.randrange(5))]]
     body = text_of(draw, draw.choice(BODY))
@@ -287,12 +382,12 @@ def statuses(said: bytes) -> list[int]:
     return [int(it) for it in re.findall(rb"^HTTP/1\.[01] (\d{3}) ", said, re.M)]
 
 
-def tried(service: Running, facts: Facts, seconds: float, part: bytes) -> int:
+def tried(service: Running, facts: Facts, seconds: float, request: Request) -> int:
     """Sends a request. Checks the reply, if one comes within some seconds, and returns its status, 0 without one."""
-    latest, said = facts.latest, b""
+    latest, said, part = facts.latest, b"", request.part
     with suppress(OSError), connected(service) as connection:
         sent(connection, part)
-        said = replied(connection, seconds)
+        said = replied(connection, 20 if request.is_well_formed else seconds)
     assert said == b"" or said.startswith(b"HTTP/"), (part, said[:300])
     assert 500 not in statuses(said), (part, said[:500])
     asked = re.match(rb"GET (\S+) HTTP/1\.[01]\r\n", part)
@@ -320,7 +415,7 @@ def test_random_requests(service: Running, request: pytest.FixtureRequest, say: 
     receipts = [service.operate("register", it, b"key").headers["location"] for it in names]
     start = time.monotonic()
     assert service.get("/healthz").status == 200
-    # Some of these requests have no reply. Others have it by then, also on a busy machine.
+    # Some of the malformed requests have no reply. Others have it by then, also on a busy machine.
     pause = max(0.5, 20 * (time.monotonic() - start))
     parts = [drawn(draw, it) for it in [*TARGETS, receipts[0]] for _ in range(each)]
     parts += [drawn(draw, draw.choice(OTHER_TARGETS)) for _ in range(each)]

@@ -16,6 +16,7 @@ from contextlib import suppress
 from http.client import HTTPException
 from pathlib import Path
 from typing import Any, Callable, Optional
+from unittest.mock import Mock
 
 import pytest
 
@@ -26,8 +27,9 @@ import collecting
 import ecvrf
 from coniks import provider
 from coniks.provider import Change, LogRefused, Operation, Overtaken, Register
-from collecting import Asked, Collector, committed
-from holders import collector_of, judged, made
+from collecting import Asked, Collector, committed, shown_key
+from holders import collector_of, judged, made, opened
+from holding import Keys
 from problems import Problem
 from services import HOME, PYTHON, Running, named, until
 
@@ -84,16 +86,18 @@ def test_no_receipt_is_lost(other: Running, number: signal.Signals, request: pyt
 
 
 def test_end_answers_who_waits(other: Running) -> None:
-    """At SIGTERM who waits is told at once: by a receipt, or that the service stops."""
+    """At SIGTERM who waits gets a reply at once: a receipt, or where to ask for it. A start has it, or the key that was committed while the
+    service ended, whose receipt is gone."""
     other.start()
     with ThreadPoolExecutor() as pool:
-        waits = pool.submit(other.operate, "register", "last", b"key")
+        waits = pool.submit(other.operate, "register", "last", b"key", Prefer="wait=20")
         until(lambda: b"coniks_operations_waiting 1.0" in other.get("/metrics").body or waits.done())
         assert other.end() == 0
         answer = waits.result()
-    assert answer.status == 200 or answer.fault == "Stopped", answer
+    assert answer.status in (200, 202), answer
     other.start()
-    assert (other.get(named("last")).body.endswith(b"key")) == (answer.status == 200)
+    assert answer.status == 200 or other.decided(answer).status in (200, 404)
+    assert other.get(named("last")).body.endswith(b"key")
 
 
 SLOW = """
@@ -225,12 +229,12 @@ def test_failed_signer(program: str, tmp_path: Path, monkeypatch: pytest.MonkeyP
         fail_once(monkeypatch, holder.keys._signer, "sign", OSError("away"))
 
         async def story() -> None:
-            asked = collector.collect(judged(Register("alice", b"key")))
+            asked = await collector.collect(judged(Register("alice", b"key")))
             await collector.commit()
             assert not asked.outcome.done() and collector.failures == 1 and holder.provider.pending
             with pytest.raises(Problem):
-                collector.collect(judged(Register("alice", b"other")))
-            second = collector.collect(judged(Register("bob", b"key")))
+                await collector.collect(judged(Register("alice", b"other")))
+            second = await collector.collect(judged(Register("bob", b"key")))
             epoch = holder.provider.pending.epoch
             monkeypatch.setattr(type(holder.provider), "epoch_now", lambda self: epoch + 7)
             await collector.commit()
@@ -239,6 +243,27 @@ def test_failed_signer(program: str, tmp_path: Path, monkeypatch: pytest.MonkeyP
             assert epoch_in(second) == epoch + 7 and collector.failures == 0
 
         asyncio.run(story())
+
+
+def test_start_without_a_signer(program: str, tmp_path: Path, monkeypatch: pytest.MonkeyPatch) -> None:
+    """A signer that is away at a start keeps no lookup back. What is pending is signed once it is back."""
+    with made(program, tmp_path, operations=[Register("alice", b"key")]):
+        pass
+    epochs = [2]
+    monkeypatch.setattr(provider.Provider, "epoch_now", lambda _: epochs[0])
+    with monkeypatch.context() as away:
+        away.setattr(Keys, "sign", Mock(side_effect=OSError("away")))
+        for _ in range(2):
+            with opened(program, tmp_path) as holder:
+                collector = collector_of(holder)
+                asyncio.run(collector.commit())
+                assert collector.failures == 1 and holder.provider.pending.epoch == 2
+                assert shown_key(holder.directory.lookup("alice")) == b"key"
+    with opened(program, tmp_path) as holder:
+        collector = collector_of(holder)
+        for epochs[0] in (2, 3):
+            asyncio.run(collector.commit())
+        assert collector.failures == 0 and [it[8] for it in holder.provider.chain()] == [1, 2, 3]
 
 
 def test_refused_operations(program: str, tmp_path: Path) -> None:
@@ -253,7 +278,7 @@ def test_refused_operations(program: str, tmp_path: Path) -> None:
                 Change("carol", b"3"),
                 Register("dave", b"4"),
             ]
-            asked = [collector.collect(judged(it)) for it in operations]
+            asked = [await collector.collect(judged(it)) for it in operations]
             await collector.commit()
             return [it.outcome.result() for it in asked]
 
@@ -264,21 +289,28 @@ def test_refused_operations(program: str, tmp_path: Path) -> None:
 
 
 def test_full_epoch(program: str, tmp_path: Path, monkeypatch: pytest.MonkeyPatch) -> None:
-    """No more operations are collected than a batch takes. What waits at the end is committed if the clock has another epoch."""
-    assert collecting.MOST == 4096
-    monkeypatch.setattr(collecting, "MOST", 64)
+    """Operations are committed in the order in which they were stored, as many at once as a batch takes. Beyond what the queue takes
+    whoever asks is told when there is room."""
+    assert (collecting.MOST, collecting.MOST_WAITING) == (4096, 16384)
+    monkeypatch.setattr(collecting, "MOST", 3)
+    monkeypatch.setattr(collecting, "MOST_WAITING", 8)
     with made(program, tmp_path) as holder:
-        collector = collector_of(holder)
+        collector, clock = collector_of(holder), [1]
+        monkeypatch.setattr(type(holder.provider), "epoch_now", lambda _: clock[0])
 
-        async def story() -> None:
-            for number in range(64):
-                collector.collect(judged(Register(f"name{number}", b"key")))
-            with pytest.raises(Problem, match="64 operations wait"):
-                collector.collect(judged(Register("one more", b"key")))
+        async def story() -> list[int]:
+            asked = [await collector.collect(judged(Register(f"name{number}", b"key"))) for number in range(8)]
+            with pytest.raises(Problem, match="8 operations wait") as refused:
+                await collector.collect(judged(Register("one more", b"key")))
+            # The second epoch of 1,000 seconds is 5 seconds old when the directory is made.
+            assert refused.value.fault == "QueueFull" and 900 < refused.value.wait < 995
+            for clock[0] in (2, 3, 4):
+                await collector.commit()
             await collector.stop()
+            return [epoch_in(it) for it in asked]
 
-        asyncio.run(story())
-        assert holder.provider.latest().names == 64
+        assert asyncio.run(story()) == [2, 2, 2, 3, 3, 3, 4, 4]
+        assert holder.provider.latest().names == 8
 
 
 def test_end_amid_a_commit(program: str, tmp_path: Path, monkeypatch: pytest.MonkeyPatch) -> None:
@@ -294,7 +326,7 @@ def test_end_amid_a_commit(program: str, tmp_path: Path, monkeypatch: pytest.Mon
 
         async def story() -> Any:
             monkeypatch.setattr(holder.keys._signer, "sign", slowly)
-            asked = collector.collect(judged(Register("alice", b"key")))
+            asked = await collector.collect(judged(Register("alice", b"key")))
             committing = asyncio.create_task(collector.commit())
             await asyncio.to_thread(is_asked.wait, 60)
             committing.cancel()
@@ -327,6 +359,18 @@ def test_failing_commits(program: str, tmp_path: Path, monkeypatch: pytest.Monke
         assert collector.failures == 20 and pauses == sorted(pauses) and pauses[0] < 1 and pauses[-1] == 5
         logged = [vars(it)["members"]["failures"] for it in caplog.records if it.getMessage() == "commit failed"]
         assert logged == [1, 2, 4, 8, 16]
+
+
+def test_failures_of_several_epochs(program: str, tmp_path: Path, monkeypatch: pytest.MonkeyPatch) -> None:
+    """A batch that is put back, since the clock has another epoch, ends no row of failures."""
+    with made(program, tmp_path) as holder:
+        collector, failures = collector_of(holder), list[int]()
+        (tmp_path / "guard").unlink()
+        for epoch in [2, 3, 3, 4, 4, 5]:
+            monkeypatch.setattr(type(holder.provider), "epoch_now", lambda _: epoch)
+            asyncio.run(collector.commit())
+            failures.append(collector.failures)
+        assert failures == [1, 1, 2, 2, 3, 3] and holder.provider.latest().epoch == 1
 
 
 def test_killed_child(program: str, tmp_path: Path, caplog: pytest.LogCaptureFixture) -> None:
@@ -397,18 +441,18 @@ def test_another_writer(program: str, tmp_path: Path) -> None:
 
 
 def test_overtaken(program: str, tmp_path: Path, monkeypatch: pytest.MonkeyPatch) -> None:
-    """A writer that is overtaken commits nothing more, and refuses who waits."""
+    """A writer that is overtaken commits nothing more, and takes nothing more. What waits stays in the queue."""
     with made(program, tmp_path) as holder:
         collector, epoch = collector_of(holder), holder.provider.latest().epoch
 
         async def story() -> Any:
             fail_once(monkeypatch, type(holder.provider), "commit", Overtaken("planted"))
-            asked = collector.collect(judged(Register("alice", b"key")))
+            asked = await collector.collect(judged(Register("alice", b"key")))
             with pytest.raises(Overtaken):
                 await collector.run()
             with pytest.raises(Problem, match="the writer"):
-                collector.collect(judged(Register("bob", b"key")))
+                await collector.collect(judged(Register("bob", b"key")))
             await collector.stop()
-            return asked.outcome.result()
+            return asked.outcome.cancelled()
 
-        assert asyncio.run(story()).fault == "Stopped" and holder.provider.latest().epoch == epoch
+        assert asyncio.run(story()) and holder.provider.latest().epoch == epoch

@@ -1,4 +1,4 @@
-"""examples/service under load while it is killed, and PostgreSQL under it: no operation with a receipt is lost, and no reply is wrong.
+"""examples/service under load while it is killed, and PostgreSQL under it: no operation that was accepted is lost, and no reply is wrong.
 
     scripts/pytest examples/tests/test_service_load.py --load 120    10,000 names, 200 operations and 1,000 lookups a second
 
@@ -22,8 +22,8 @@ pytest.importorskip("aiohttp")
 pytest.importorskip("nacl.signing")
 
 import tools
-from loads import Plan, changes, check_keys, check_receipts, percentile, read, write
-from services import Running
+from loads import Plan, changes, check_accepted, check_keys, check_receipts, percentile, read, write
+from services import Running, until
 
 Kill = Callable[[], None]
 
@@ -71,7 +71,7 @@ def loaded(packages: None, library: None, program: str, plan: Plan, tmp_path: Pa
 
 
 def start(service: Running, *more: str) -> None:
-    service.start("--rate", "1000000", "--connections", "8000", "--recent", "1000000", *more, port=service.port)
+    service.start("--rate", "1000000", "--connections", "100000", "--recent", "1000000", *more, port=service.port)
 
 
 @pytest.mark.kills
@@ -94,6 +94,9 @@ def test_load(loaded: Loaded, plan: Plan, say: Callable[[str], None]) -> None:
     receipts = [it for it in changed if it.epoch]
     check_keys([*begun, *changed], seen)
     check_receipts(service.port, [*begun, *changed])
+    until(lambda: b"coniks_operations_waiting 0.0" in service.get("/metrics").body)
+    check_accepted(service.port, [*begun, *changed])
+    accepted = [it for it in changed if it.is_accepted]
     assert receipts and seen and not [it for it in service.lines() if it["event"] == "unexpected"]
     times = [f"{1000 * percentile((it.seconds for it in seen), part):.0f} ms" for part in (50, 99, 100)]
     over = "PostgreSQL, killed once" if kill_database else "files"
@@ -101,7 +104,8 @@ def test_load(loaded: Loaded, plan: Plan, say: Callable[[str], None]) -> None:
         f"load: {len(seen)} verified lookups in {plan.seconds:.0f} s: median {times[0]}, 99th percentile {times[1]}, largest {times[2]}"
     )
     say(
-        f"load: {len(receipts)} of {len(changed)} operations have receipts; {plan.kills} kills; {failed} lookups failed; over {over}"
+        f"load: {len(accepted)} of {len(changed)} operations were accepted, and {len(receipts)} have receipts; {plan.kills} kills; "
+        f"{failed} lookups failed; over {over}"
     )
 
 

@@ -14,6 +14,7 @@ import subprocess
 import tempfile
 import urllib.error
 import urllib.request
+from contextlib import suppress
 from pathlib import Path
 from typing import Iterator
 
@@ -23,6 +24,7 @@ pytest.importorskip("aiohttp")
 pytest.importorskip("nacl.signing")
 
 import tools
+from holding import Keys, Terms, make_keys
 from replies import History
 from services import HOME, Running, named, until
 
@@ -58,7 +60,7 @@ def proxied(other: Running, tmp_path: Path) -> Iterator[str]:
         port, text = free.getsockname()[1], (DEPLOY / "nginx.conf").read_text("utf-8")
     for old, new in [
         ("127.0.0.1:8080", f"127.0.0.1:{other.port}"), ("listen 443", f"listen 127.0.0.1:{port}"), ("listen [::]:443 ssl http2;", ""),
-        ("/etc/ssl/coniks", str(tmp_path)), ("/var/log/nginx", str(tmp_path)), ("/var/cache/nginx", str(tmp_path)),
+        ("/etc/ssl/coniks", str(tmp_path)), ("/var/log/nginx", str(tmp_path)), ("/var/cache", str(tmp_path)),
     ]:  # fmt: skip
         assert old in text
         text = text.replace(old, new)
@@ -152,6 +154,54 @@ def test_wrong_keys(other: Running) -> None:
     assert other.get(named("alice")).body.endswith(b"key")
 
 
+def test_keys_of_a_replica(packages: None, tmp_path: Path) -> None:
+    """A replica verifies and computes indices without a signing key, and reads none that is there. Its VRF key is that of the policy."""
+    make_keys(tmp_path, Terms("keys.example.com", 0, 1, 10, False))
+    signing, vrf, writer = tmp_path / "signing.key", tmp_path / "vrf.key", Keys(tmp_path)
+    body = bytes(145)
+    signature = writer.sign(body)
+    for is_there in (True, False):
+        signing.write_bytes(b"no key") if is_there else signing.unlink()
+        replica = Keys(tmp_path, is_replica=True)
+        assert (replica.index("alice"), bytes(replica.policy)) == (writer.index("alice"), bytes(writer.policy))
+        assert replica.verify(body, signature) and not replica.verify(body, bytes(64))
+        with pytest.raises((ValueError, FileNotFoundError)):
+            Keys(tmp_path)
+    vrf.write_bytes(bytes(32))
+    with pytest.raises(ValueError, match="not those of its policy"):
+        Keys(tmp_path, is_replica=True)
+
+
+def test_credentials(tmp_path: Path, monkeypatch: pytest.MonkeyPatch) -> None:
+    """A key may have the rights of a credential in the folder of credentials alone, and others may never read it."""
+    make_keys(tmp_path, Terms("keys.example.com", 0, 1, None))
+
+    def is_taken(rights: int) -> bool:
+        (tmp_path / "vrf.key").chmod(rights)
+        with suppress(ValueError):
+            return bool(Keys(tmp_path))
+        return False
+
+    every = [0o400, 0o600, 0o440, 0o460, 0o444, 0o644]
+    assert [is_taken(it) for it in every] == [True, True, False, False, False, False]
+    monkeypatch.setenv("CREDENTIALS_DIRECTORY", str(tmp_path.parent))
+    assert not is_taken(0o440)
+    monkeypatch.setenv("CREDENTIALS_DIRECTORY", str(tmp_path))
+    assert [is_taken(it) for it in every] == [True, True, True, False, False, False]
+
+
+@pytest.mark.parametrize(
+    "words", [["run"], ["make", "--origin", "keys.example.com"], ["adopt", "--latest", "1"], ["run", "--replica", "--database"]]
+)
+def test_guard_of_a_writer(packages: None, tmp_path: Path, words: list[str]) -> None:
+    """Whoever signs has a guard, and a replica needs none."""
+    places = ["--keys", str(tmp_path / "keys"), "--log", str(tmp_path / "log")]
+    ran = subprocess.run([HOME / "serve", *words, *places], capture_output=True, text=True)
+    is_missing = ran.returncode == 2 and "--guard is missing: only a replica signs nothing" in ran.stderr
+    assert is_missing is ("--replica" not in words) and not any(tmp_path.iterdir()), ran.stderr
+    assert is_missing or "vrf.key" in ran.stderr
+
+
 def test_old_backup(other: Running) -> None:
     """A restored log that lacks signed epochs is refused, and nothing is signed. The whole log is taken."""
     log = other.room / "log"
@@ -170,10 +220,51 @@ def test_old_backup(other: Running) -> None:
     assert other.get(named("alice")).body.endswith(b"key")
 
 
-def test_full_disk(other: Running) -> None:
-    """While the log can't grow operations wait and lookups go on. Then they are stored."""
+def adopted(service: Running, latest: int) -> subprocess.CompletedProcess[str]:
+    return subprocess.run([*service._words("adopt"), "--latest", str(latest)], capture_output=True, text=True, timeout=60)
+
+
+def test_lost_guard(other: Running) -> None:
+    """Without the guard's record lookups go on, at each start, and the log stays as it is. Operations wait for another record, which begins
+    only with an epoch that nobody has seen a later one of."""
     other.start()
     other.operate("register", "alice", b"key")
+    other.end()
+    (other.room / "guard").unlink()
+    log = (other.room / "log").read_bytes()
+    for key in (b"one", b"two"):
+        other.start()
+        waiting = other.operate("register", f"bob {key.decode()}", key, Prefer="wait=3")
+        assert waiting.status == 202 and other.get(named("alice")).body.endswith(b"key")
+        [*_, failed] = [it for it in other.lines() if it["event"] == "commit failed"]
+        assert "has no signed entry" in failed["error"] and failed["if the record is lost"] == "serve adopt"
+        latest = int(other.get("/v1/head").json["epoch"])
+        assert other.end() == 0 and (other.room / "log").read_bytes() == log
+    for number in (latest - 1, latest + 1):
+        refused = adopted(other, number)
+        assert (
+            refused.returncode == 1 and f"the log ends at epoch {latest}" in refused.stderr and not (other.room / "guard").exists()
+        )
+    assert adopted(other, latest).returncode == 0 and (other.room / "guard").exists()
+    other.start()
+    until(lambda: other.get(named("bob two")).body.endswith(b"two"))
+    assert other.get(named("bob one")).body.endswith(b"one")
+    other.end()
+    # Another record is not begun where there is one.
+    record = (other.room / "guard").read_bytes()
+    latest += 1
+    while (ran := adopted(other, latest)).returncode == 1 and "ends at" in ran.stderr:
+        latest += 1
+    assert ran.returncode == 0 and (other.room / "guard").read_bytes() == record, "the record that is there has this entry"
+
+
+def test_full_disk(other: Running) -> None:
+    """While the log can't grow operations wait and lookups go on. Then they are stored. The queue has room here: it is smaller."""
+    other.start()
+    other.operate("register", "alice", b"key")
+    for number in range(4):
+        other.operate("change", "alice", bytes([number]) * 16384)
+    other.operate("change", "alice", b"key")
     size = (other.room / "log").stat().st_size
     resource.prlimit(other.process.pid, resource.RLIMIT_FSIZE, (size, resource.RLIM_INFINITY))
     waiting = other.operate("change", "alice", b"other", Prefer="wait=3")
@@ -232,7 +323,7 @@ def test_take_over(packages: None, program: str, tmp_path: Path) -> None:
         place = ("--database", "--log", database.conninfo, "--guard", database.conninfo)
         writer, replica = (Running(it, program, place=place) for it in rooms)
         writer.make()
-        shutil.copytree(rooms[0] / "keys", rooms[1] / "keys")
+        shutil.copytree(rooms[0] / "keys", rooms[1] / "keys", ignore=shutil.ignore_patterns("signing.key"))
         writer.start()
         replica.start("--replica")
         try:
@@ -251,10 +342,14 @@ def check_take_over(writer: Running, replica: Running) -> None:
     assert (refused.status, refused.fault) == (503, "NoWriter")
     metrics = replica.get("/metrics").body
     assert b"coniks_lag_seconds" in metrics and b"coniks_writer 0.0" in metrics and b"coniks_lag" not in writer.get("/metrics").body
+    accepted = writer.operate("register", "bob", b"key", Prefer="")
     writer.process.send_signal(signal.SIGSTOP)
     replica.end()
+    shutil.copy(writer.room / "keys/signing.key", replica.room / "keys")
     replica.start()
     assert b"coniks_writer 1.0" in replica.get("/metrics").body
+    assert accepted.status == 202
+    until(lambda: replica.get(named("bob")).body.endswith(b"key"))
     until(lambda: replica.operate("change", "alice", b"other").status in (200, 409))
     writer.process.send_signal(signal.SIGCONT)
     assert writer.process.wait(60) == 2 and "Overtaken" in writer.lines()[-1]["error"]

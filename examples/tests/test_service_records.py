@@ -105,7 +105,7 @@ def test_judged_again(program: str, tmp_path: Path, monkeypatch: pytest.MonkeyPa
             late = [Judged(Change(it, b"3"), {}, b"1", 1) for it in ("alice", "bob")]
             holder.provider.commit(2, [Change("alice", b"2")])
             monkeypatch.setattr(type(holder.provider), "epoch_now", lambda _: 3)
-            asked = [collector.collect(it) for it in late]
+            asked = [await collector.collect(it) for it in late]
             await collector.commit()
             return [it.outcome.result() for it in asked]
 

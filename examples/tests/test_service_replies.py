@@ -243,7 +243,7 @@ def test_pages(packages: None, program: str, tmp_path: Path, monkeypatch: pytest
 
 
 def test_rates() -> None:
-    """So many requests in four seconds, for each address and each network of IPv6."""
+    """So many requests in four seconds, for each address and each network of IPv6. One of IPv4 counts once in all its forms."""
     import connections
     from problems import Problem
 
@@ -263,7 +263,55 @@ def test_rates() -> None:
     now[0] = 12
     assert [wait("192.0.2.1") for _ in range(5)] == [0, 0, 0, 0, 4]
     assert [wait(f"2001:db8::{it}") for it in range(5)] == [0, 0, 0, 0, 4]
-    assert wait("2001:db8:0:1::1") == 0 and wait("fe80::1%eth0") == 0 and wait("no address") == 0
+    assert wait("2001:db8:0:1::1") == 0 and wait("fe80::1%eth0") == 0
+    # The forms of RFC 4291, RFC 3056 and RFC 6052, each of one address and of another one.
+    for forms in [["192.0.2.3", "::ffff:192.0.2.3", "::ffff:c000:203", "2002:c000:203::1", "64:ff9b::192.0.2.3"]]:
+        assert [wait(it) for it in forms] == [0, 0, 0, 0, 4]
+    assert [wait(it) for it in ("::ffff:192.0.2.4", "2002:c000:204::1", "64:ff9b::192.0.2.4", "192.0.2.4", "192.0.2.4")] == [
+        0,
+        0,
+        0,
+        0,
+        4,
+    ]
+    assert [wait(it) for it in ("no address", "192.0.2", "192.0.2.1:80", "", "\ud800")] == [0, 0, 0, 0, 4]
+
+
+def test_turns() -> None:
+    """Sixteen requests of an address are worked on at once, and the others at its rate."""
+    import connections
+
+    now = [8.0]
+    rate = connections.Rate(10, lambda: now[0])
+    assert [rate.count("192.0.2.1") for _ in range(18)] == [*[0] * 16, pytest.approx(0.1), pytest.approx(0.2)]
+    assert rate.count("192.0.2.2") == 0
+    now[0] = 8.5
+    assert [rate.count("192.0.2.1") for _ in range(4)] == pytest.approx([0, 0, 0, 0.1])
+    now[0] = 12
+    assert rate.count("192.0.2.1") == 0
+
+
+def test_epochs_that_are_forgotten_meanwhile(packages: None) -> None:
+    """A history begins with the oldest epoch that is left, also if the service has not found that out yet."""
+    from coniks.provider import UnknownEpoch
+    from endpoints import Endpoints
+
+    asked, metrics, nothing = list[int](), Mock(first=0), Mock()
+
+    def history(name: str, proof: object, first: int, last: int) -> bytes:
+        asked.append(first)
+        if first < 5 or last > 9:
+            raise UnknownEpoch
+        return b"history"
+
+    metrics.find_first = lambda: setattr(metrics, "first", 4)
+    chain = [bytes(1) + number.to_bytes(8, "big") + bytes(200) for number in range(1, 10)]
+    nothing.holder.directory = Mock(history=history, chain=lambda: chain)
+    served: Any = Endpoints(nothing, nothing, metrics, Bounds())
+    assert served._history("alice", 1, 9) == b"history" and asked == [1, 5]
+    assert served._history("alice", 7, 9) == b"history" and asked[2:] == [7]
+    with pytest.raises(UnknownEpoch):
+        served._history("alice", 1, 10)
 
 
 def test_old_epochs(other: Running) -> None:
@@ -306,8 +354,60 @@ def test_too_many_requests(other: Running) -> None:
     assert other.get("/v1/policy", X_Forwarded_For="192.0.2.1, 192.0.2.2").status == 200
     line = b"GET /v1/policy HTTP/1.1\r\nHost: a\r\nConnection: close\r\nX-Forwarded-For: 10.0.0.%d\r\nX-Forwarded-For: 192.0.2.3\r\n\r\n"
     assert sum(b" 429 " in other.send(line % it) for it in range(40)) >= 20, "the proxy's own line is the last one"
-    assert other.get("/healthz").status == 200
+    made_up = [other.get("/v1/policy", X_Forwarded_For=f"no address {it}").status for it in range(40)]
+    assert made_up.count(429) >= 20, "what is no address counts as one"
     until(lambda: other.get("/v1/policy", X_Forwarded_For="192.0.2.1").status == 200)
+
+
+def test_too_many_requests_of_operators(other: Running) -> None:
+    """What is for operators counts for everyone but this host, which is served at any time: also by "not ready" while an epoch is late."""
+    other.start("--rate", "1", "--behind-proxy")
+    for number, target in enumerate(["/healthz", "/readyz", "/metrics"]):
+        until(lambda: other.get(target, X_Forwarded_For=f"192.0.2.{number}").status == 429)
+        refused = {it.fault for it in (other.get(target) for _ in range(9)) if it.status != 200}
+        assert refused <= ({"NotReady"} if target == "/readyz" else set()), target
+
+
+def test_one_history(packages: None) -> None:
+    """One history is made at a time, and those of an address wait until the others have had their turn."""
+    import asyncio
+
+    from aiohttp.test_utils import make_mocked_request
+    from endpoints import Endpoints
+    from problems import Problem
+
+    order, now = list[str](), [0]
+
+    def history(name: str, *_: object) -> bytes:
+        now[0] += 1
+        assert now == [1]
+        time.sleep(0.05)
+        now[0] -= 1
+        order.append(name)
+        return name.encode()
+
+    nothing: Any = Mock()
+    nothing.holder.directory = Mock(history=history, chain=lambda: [bytes(209)])
+    served: Any = Endpoints(nothing, nothing, Mock(first=0), Bounds(is_behind_proxy=True))
+
+    async def asked(name: str, address: str) -> Any:
+        request = make_mocked_request("GET", "/v1/history", headers={"X-Forwarded-For": address})
+        request["query"] = {"name": name, "first": "0", "last": "9"}
+        return (await served.history(request)).body
+
+    async def all_asked() -> Any:
+        return await asyncio.gather(*(asked(*it) for it in wanted.items()))
+
+    wanted = {
+        "a1": "192.0.2.1",
+        "a2": "::ffff:192.0.2.1",
+        "a3": "192.0.2.1",
+        "b1": "2001:db8::1",
+        "b2": "2001:db8::2",
+        "c1": "192.0.2.3",
+    }
+    assert asyncio.run(all_asked()) == [it.encode() for it in wanted]
+    assert order == ["a1", "b1", "c1", "a2", "b2", "a3"]
 
 
 def test_tokens(packages: None, tmp_path: Path, caplog: pytest.LogCaptureFixture) -> None:
