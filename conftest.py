@@ -42,6 +42,7 @@ def pytest_addoption(parser: pytest.Parser) -> None:
     group.addoption(
         "--alterations", type=int, default=200, metavar="N", help="alterations of a client's cases, and a quarter as many walks"
     )
+    group.addoption("--epochs", type=int, default=3, metavar="N", help="epochs of all that can happen to a watched name")
     group.addoption("--schedules", type=int, default=100, metavar="N", help="random schedules of a hostile service")
     group.addoption("--seed", type=int, default=1, metavar="N", help="where the random alterations and walks of clients begin")
     group.addoption(
@@ -57,6 +58,7 @@ def pytest_addoption(parser: pytest.Parser) -> None:
     group.addoption("--lookups", type=int, default=1000, metavar="N", help="lookups a second of the whole load")
     group.addoption("--readers", type=int, default=2, metavar="N", help="processes that look names up in it")
     group.addoption("--replicas", type=int, default=0, metavar="N", help="replicas that they ask, in place of the writer")
+    group.addoption("--days", type=int, default=6, metavar="N", help="days of the year of examples/service")
     group.addoption("--points", type=int, default=500, metavar="N", help="random VRF proofs and as many signatures in JavaScript")
 
 

@@ -3,12 +3,15 @@
 from __future__ import annotations
 
 import re
-from dataclasses import dataclass
+from dataclasses import dataclass, field
+from typing import Iterable, Iterator
 
 # The last line of a script that counts, and that of `pytest --quiet` with its parts. An error is one of a fixture or of a module.
 LAST = re.compile(r"(\d+) passed, (\d+) failed(?:, (\d+) skipped)?")
 PYTEST = re.compile(r"\d+ \w+(?:, \d+ \w+)* in [\d.]+s(?: \(.*\))?")
 PART = re.compile(r"(\d+) (passed|failed|error|skipped)")
+# A line that names a test which failed: of pytest's summary, of `node --test`, and of a script.
+WRONG = re.compile(r"ERROR .*|✖.*|.*\bFAILED\b.*")
 # A line of the summary of `node --test`.
 NODE = re.compile(r"^ℹ (pass|fail|cancelled|skipped) (\d+)$", re.M)
 
@@ -33,13 +36,24 @@ def counts_of(text: str, status: int) -> list[int]:
     return [counts[0], max(counts[1], int(status != 0)), counts[2]]
 
 
+def wrong_in(lines: Iterable[str], most: int = 10) -> Iterator[str]:
+    """The lines of a command's output that name what failed, the last line if none does; of many the last ones."""
+    last, found = "", list[str]()
+    for line in map(str.strip, lines):
+        last = line or last
+        if WRONG.fullmatch(line):
+            found.append(line)
+    yield from found[-most:] or [last]
+
+
 @dataclass
 class Tally:
-    """What has passed, failed and been skipped so far."""
+    """What has passed, failed and been skipped so far, and which tests failed."""
 
     passed: int = 0
     failed: int = 0
     skipped: int = 0
+    wrong: list[str] = field(default_factory=list)
 
     def add(self, passed: int, failed: int, skipped: int = 0) -> None:
         self.passed, self.failed, self.skipped = self.passed + passed, self.failed + failed, self.skipped + skipped

@@ -14,6 +14,9 @@ from typing import Iterable, Sequence
 # The words of a command that `./gate quick` replaces by the path of a program.
 KEYDIR, PROVIDER = "KEYDIR", "PROVIDER"
 
+# The page whose examples and tables several tests read.
+FORMATS = "docs/FORMATS.md"
+
 # The tests that `./gate quick` leaves out, since they take minutes: they kill processes, or interrupt calls at each bytecode.
 SHORT = ["-m", "not interrupts and not kills"]
 
@@ -54,7 +57,7 @@ class Part:
     def command(self, is_whole: bool = False) -> list[str]:
         """What the gate runs, at the top of the repository."""
         if self.is_pytest():
-            return ["scripts/pytest", "--quiet", "-rs", *self.tests, *([] if is_whole else self.options)]
+            return ["scripts/pytest", "--quiet", "-rsfE", *self.tests, *([] if is_whole else self.options)]
         if self.tests[0].endswith(".mjs"):
             return ["node", "--test", "--test-reporter=spec", *self.tests]
         return [*self.tests]
@@ -84,6 +87,7 @@ OF_CLUSTERS = (
     tests("cluster", "conftest", "clusters", "log_calls") + package("_session", "_tables") + ["examples/cluster/database.py"]
 )
 # What the clients of all languages are compared with, and what compares them.
+CORE_TESTS = [f"embed/tests/{it}.py" for it in ("core_client", "core_states", "guarded")]
 OF_CLIENTS = [
     "cases/client/*",
     "cases/second/client*",
@@ -93,7 +97,7 @@ OF_CLIENTS = [
     "embed/tests/client_sides.py",
 ]
 # What the packages for other languages are compared with.
-OF_SIDES = ["include/coniks.h", "embed/texts.json", "embed/sample", "embed/proof_bytes.py"]
+OF_SIDES = ["include/coniks.h", "include/coniks_core.h", "embed/texts.json", "embed/sample", "embed/proof_bytes.py"]
 OF_SIDES += [f"embed/tests/{it}.py" for it in ("conftest", "messages", "model", "running", "samples", "sides")]
 
 OF_CONTACTS = package("contacts", "_person", "_own_names", "_confirming", "_telling", "commands", "trust")
@@ -128,7 +132,7 @@ PYTHON = [
     ),
     Part(
         "policies and clocks",
-        [*package("policy", "_host", "provider"), *tests("provider", "worked_examples")],
+        [*package("policy", "_host", "provider"), *tests("provider", "worked_examples"), FORMATS],
         tests("provider", "test_policies", "test_clocks"),
     ),
     Part(
@@ -218,14 +222,14 @@ PYTHON = [
         library=True,
     ),
     Part(
-        "alterations and walks of the client in Python",
+        "alterations, walks and all short histories of the client in Python",
         [*package("client", "_messages", "_replies", "_watch", "_ecvrf", "policy"), *tests("client", "*"), *OF_CLIENTS],
-        tests("client", "test_alterations", "test_walks"),
+        tests("client", "test_alterations", "test_walks", "test_search", "test_alarm_worlds", "test_alarm_walks"),
         library=True,
     ),
     Part(
         "auditors",
-        [*package("audit", "notes", "_http", "commands"), *tests("audit", "*"), "embed/python/bin/coniks-audit"],
+        [*package("audit", "notes", "_http", "commands"), *tests("audit", "*"), "embed/python/bin/coniks-audit", FORMATS],
         tests("audit", "test_audit", "test_notes"),
         library=True,
     ),
@@ -236,6 +240,7 @@ PYTHON = [
             *package("_client_state", "_http", "client", "notes"),
             *tests("contacts", "*"),
             "embed/python/bin/coniks-client",
+            FORMATS,
         ],
         tests("contacts", "test_contacts", "test_confirming", "test_trust"),
         library=True,
@@ -253,37 +258,43 @@ PYTHON = [
             *package("vouching", "policy"),
             *tests("contacts", "*"),
             *(f"cases/second/{it}" for it in ("vouched.py", "policy.py", "convicts")),
+            FORMATS,
         ],
         tests("contacts", "test_vouching"),
         library=True,
     ),
 ]
 
-SHARED_BY_SERVICES = [f"examples/tests/{it}.py" for it in ("conftest", "services", "facts", "loads", "holders", "auditing")]
+SHARED_BY_SERVICES = [
+    f"examples/tests/{it}.py" for it in ("conftest", "services", "facts", "loads", "denials", "holders", "auditing")
+]
 SERVICE = [
     Part(
         f"the service: {name}",
         ["examples/service/**", *SHARED_BY_SERVICES, *package(*modules.split())],
         [f"examples/tests/test_service_{name}.py"],
         library=True,
-        alone=name in ("operation", "load"),
+        alone=name in ("operation", "load", "denial"),
     )
     for name, modules in {
         "replies": "names _replies",
         "life": "provider _host log",
+        "queue": "provider",
         "attacks": "",
         "audit": "audit notes",
         "clients": "contacts _person _own_names _confirming vouching names",
         "records": "vouching",
         "operation": "log guard",
+        "alarms": "audit",
         "load": "",
+        "denial": "_children _replies",
     }.items()
 ]
 
 LANGUAGES = [
     Part(
         "the library for C",
-        ["embed/c/*", "embed/build", "embed/install", *OF_SIDES],
+        ["embed/c/*", "embed/build", "embed/install", "scripts/need-rt", *OF_SIDES],
         ["embed/tests/test_c_library.py"],
         ["--proofs", "500", "--calls", "2000"],
         library=True,
@@ -302,11 +313,24 @@ LANGUAGES = [
     ),
     Part(
         "the package in Go",
-        [f"embed/go/{it}" for it in ("*", "example/*", "internal/**", "testdata/*")] + OF_SIDES,
+        [f"embed/go/{it}" for it in ("*", "example/*", "internal/**", "testdata/*")] + [*OF_SIDES, FORMATS],
         ["embed/tests/test_side_in_go.py"],
         library=True,
     ),
-    Part("the client in Go", ["embed/go/client/**"], ["embed/tests/test_client_in_go.py"], library=True),
+    Part("the client in Go", ["embed/go/client/**", FORMATS], ["embed/tests/test_client_in_go.py"], library=True),
+    Part(
+        "the core of a client in C",
+        ["include/coniks_core.h", "embed/c/core_stack.c", "embed/c/painted.h", *CORE_TESTS, *OF_CLIENTS],
+        [f"embed/tests/{it}.py" for it in ("test_core", "test_core_quorum", "test_core_state_bytes", "test_core_states")],
+        ["--alterations", "40"],
+        library=True,
+    ),
+    Part(
+        "the core in all that can happen",
+        ["include/coniks_core.h", "embed/c/core_worlds.c"],
+        ["embed/tests/test_core_worlds.py", "embed/tests/test_core_header.py"],
+        library=True,
+    ),
     Part("the package in Rust", ["embed/rust/**", *OF_SIDES], ["embed/tests/test_side_in_rust.py"], library=True),
     *[
         Part(
@@ -333,8 +357,8 @@ LANGUAGES = [
     ),
     Part(
         "the modules in JavaScript",
-        ["web/src/*", "web/telling.mjs", "web/build"],
-        [f"web/tests/{it}.test.mjs" for it in ("arguments", "client", "client_arguments", "following", "keys", "page")],
+        ["web/src/*", "web/telling.mjs", "web/build", FORMATS],
+        [f"web/tests/{it}.test.mjs" for it in ("arguments", "client", "client_arguments", "following", "keys", "page", "watch")],
         module=True,
     ),
 ]
@@ -349,7 +373,7 @@ OF_PAGES = [
     "web/src/draw.js",
     "web/src/lines.js",
 ]
-OF_PAGES += [f"web/page_tests/{it}.py" for it in ("conftest", "browser", "given")]
+OF_PAGES += [f"web/page_tests/{it}.py" for it in ("conftest", "browser", "computing", "given")]
 # Beside other tests the large inputs take minutes, and the page replies too late meanwhile.
 PAGE_OPTIONS: dict[str, list[str]] = {"results": ["--lines", "100"], "deceptions": [], "ways": ["-k", "not long and not many"]}
 PAGES = [
@@ -430,12 +454,44 @@ REST = [
         ["examples/tests/test_provider_example.py"],
         library=True,
     ),
-    Part("the README", ["README.md", "examples/provider/*", "examples/*.*"], ["examples/tests/test_readme.py"], library=True),
+    Part(
+        "the README and the guide",
+        ["README.md", "docs/GUIDE.md", ".gitignore", "examples/provider/*", "examples/*.*", "examples/tests/checkouts.py"],
+        ["examples/tests/test_readme.py"],
+        library=True,
+    ),
+    Part(
+        "the runbook",
+        [
+            "examples/service/**",
+            "scripts/install",
+            *SHARED_BY_SERVICES,
+            *(f"examples/tests/{it}" for it in ("checkouts.py", "machines.py", "systemctl")),
+            *package("audit", "contacts", "log", "guard"),
+        ],
+        ["examples/tests/test_runbook.py"],
+        library=True,
+    ),
+    Part(
+        "a year by the runbook",
+        [
+            "examples/service/**",
+            *(f"examples/tests/{it}" for it in ("checkouts.py", "machines.py", "systemctl", "test_runbook.py")),
+            *package("provider", "guard", "log", "audit", "contacts"),
+        ],
+        ["examples/tests/test_year.py"],
+        ["--days", "2"],
+        library=True,
+    ),
     Part("documents", ["**/*.md", "*.md", "docs/**", "crates.txt", "crates/**"], ["docs/draw", "--check"]),
     Part("linters", ["**"], ["scripts/lint"]),
     Part(
         "launchers",
-        ["keydir", "provider", *(f"scripts/{it}" for it in ("launch", "built", "processor", "compile-unproved", "unproved-kit"))],
+        [
+            "keydir",
+            "provider",
+            *(f"scripts/{it}" for it in ("launch", "built", "need-rt", "processor", "compile-unproved", "unproved-kit")),
+        ],
         ["scripts/tests/test_launcher.py"],
     ),
     Part(

@@ -7,12 +7,12 @@ import re
 import subprocess
 import time
 from concurrent.futures import FIRST_COMPLETED, Future, ThreadPoolExecutor, wait
-from dataclasses import dataclass
+from dataclasses import dataclass, field
 from pathlib import Path
 from typing import Callable, Optional, Sequence, Union
 
 import parts
-from counting import Tally, counts_of, say
+from counting import Tally, counts_of, say, wrong_in
 from over_libraries import crates
 
 TOP = Path(__file__).resolve().parent.parent
@@ -54,13 +54,15 @@ def changed_files() -> tuple[str, list[str]]:
 
 @dataclass
 class Job:
-    """A command that runs beside others, once the jobs in `after` have passed. If it has a limit, it is ended after these seconds."""
+    """A command that runs beside others, once the jobs in `after` have passed. If it has a limit, it is ended after these seconds.
+    What went wrong is in `wrong` once it has run."""
 
     name: str
     words: Sequence[str]
     after: Sequence[str] = ()
     home: Path = TOP
     limit: int = 0
+    wrong: list[str] = field(default_factory=list)
 
     def tell(self, text: str) -> None:
         say(f"{self.name}: {text}")
@@ -88,6 +90,7 @@ class Job:
             # It counts nothing that is known here, and has passed.
             counts = [1, 0, 0]
         self.tell(f"{'FAILED' if counts[1] else 'ok'}, {took}")
+        self.wrong += wrong_in(lines) if counts[1] else []
         return counts
 
 
@@ -98,10 +101,12 @@ class Step:
     name: str
     call: Callable[[], str]
     after: Sequence[str] = ()
+    wrong: list[str] = field(default_factory=list)
 
     def run(self) -> list[int]:
         wrong = self.call()
         say(f"{self.name}: {wrong or 'ok'}")
+        self.wrong += [wrong] if wrong else []
         return [0, int(bool(wrong)), 0]
 
 
@@ -183,13 +188,14 @@ def run_jobs(jobs: Sequence[Union[Job, Step]], tally: Tally, most: int = 0) -> l
                         f"{job.name}, ended after {job.limit} s: cd {job.home.relative_to(TOP)} && {' '.join(job.words)}"
                     )
                 tally.add(*(counts or [0, 0, 1]))
+                tally.wrong += [f"{job.name}: {it}" for it in job.wrong]
     return lacking
 
 
 def quick(tally: Tally) -> None:
     os.environ["CONIKS_UNPROVED"] = "1"
     since, files = changed_files()
-    say(f"gate: quick, which proves at most the crates that changed: {len(files)} files {since}")
+    say(f"gate: quick, which runs rt check in the crates that changed, and no other proof: {len(files)} files {since}")
     names = changed_crates(files, "src", "specs", "proofs")
     over = [it for built, found in OVER.items() if not crates(built).keys().isdisjoint(names) for it in found]
     chosen = [it for it in parts.PARTS if it.name in over or any(map(it.has, files))]

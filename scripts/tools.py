@@ -89,6 +89,7 @@ TOOLS: dict[str, tuple[Callable[[], bool], str, str]] = {
     "jsonschema": (lambda: python_with("pytest", "jsonschema") is not None, "python3-jsonschema", "the members of openapi.json"),
     "systemd-analyze": (lambda: has_program("systemd-analyze"), "systemd", "the units of examples/service"),
     "nginx": (lambda: has_program("nginx") and has_program("openssl"), "nginx-light openssl", "the proxy of examples/service"),
+    "promtool": (lambda: has_program("promtool"), "", "the rules for Prometheus as it reads them"),
     "PostgreSQL": (lambda: any(Path("/usr/lib/postgresql").glob("*/bin/initdb")), "postgresql", "a directory on several machines"),
     "psycopg": (lambda: python_for("databases") is not None, "python3-psycopg", "coniks.postgres and examples/cluster"),
     "pytest": (lambda: python_for("tests") is not None, "python3-pytest", "the tests in Python"),

@@ -43,6 +43,25 @@ def test_counts(gate: Any, what: str) -> None:
     assert gate.counts_of(text, status) == wanted
 
 
+WRONG = {
+    "pytest": (["..F", "E   assert 1 == 2", "FAILED a/test_b.py::test_c - assert 1 == 2", "1 failed in 0.5s"], [2]),
+    "pytest, an error": (["ERROR a/test_b.py::test_c - OSError", "1 error in 0.5s"], [0]),
+    "node": (["✔ names (2ms)", "✖ numbers (3ms)", "ℹ fail 1"], [1]),
+    "a script": (["== one: ok", "== two: FAILED: another reply", "1 passed, 1 failed"], [1]),
+    "no name": (["Traceback", "OSError: no room", ""], [1]),
+    "many": ([f"FAILED {it}" for it in range(12)], list(range(2, 12))),
+}
+
+
+@pytest.mark.parametrize("what", WRONG)
+def test_wrong(gate: Any, what: str) -> None:
+    """The lines that name what failed, and of an output that names nothing the last one."""
+    lines, wanted = WRONG[what]
+    job, tally = gate.Job("a job", ["sh", "-c", 'printf "%s\\n" "$@"; exit 1', "sh", *lines]), gate.Tally()
+    gate.run_jobs([job, gate.Job("another", ["echo", "1 passed, 0 failed"])], tally)
+    assert tally.wrong == [f"a job: {lines[it]}" for it in wanted]
+
+
 def built(gate: Any, monkeypatch: pytest.MonkeyPatch, room: Path, here: str, fails: str = "none") -> tuple[list[str], str]:
     """Has the gate build on a machine, where a build with these words fails. What ran in the end, and the counts."""
     ran: list[str] = []

@@ -20,7 +20,7 @@ import pytest
 
 TOP = Path(__file__).resolve().parents[2]
 PROGRAMS = ["keydir", "provider"]
-FILES = [*PROGRAMS, "scripts/install", "scripts/launch", "scripts/crates", "scripts/built", "scripts/processor"]
+FILES = [*PROGRAMS, "scripts/install", "scripts/launch", "scripts/crates", "scripts/built", "scripts/need-rt", "scripts/processor"]
 FOLDERS = ["docs/man", "docs/completion", "embed/python/bin", "embed/python/src/coniks"]
 # The commands of the Python package, and the manual pages.
 COMMANDS = ["coniks-audit", "coniks-client"]
@@ -170,6 +170,13 @@ def test_first(room: Path, prefix: Path) -> None:
     check_moved("a moved folder", prefix)
 
 
+def test_umask(room: Path, prefix: Path) -> None:
+    """Everyone can read an installation, whatever the umask of its caller is."""
+    ran = run("sh", "-c", 'umask 077; exec "$0" "$1"', room / "scripts/install", prefix, home=room, PATH=search_path(room))
+    folders = {it.stat().st_mode & 0o777 for it in [prefix, *prefix.rglob("*")] if it.is_dir()}
+    assert (ran.returncode, folders, files(prefix)) == (0, {0o755}, wanted())
+
+
 def test_again(tmp_path: Path, room: Path, prefix: Path) -> None:
     """An older installation is replaced file by file, and none is written in place."""
     install(room, prefix)
@@ -211,6 +218,16 @@ def test_build(room: Path, prefix: Path) -> None:
     ran = install(room, prefix)
     texts = [run(prefix / "bin" / it).stdout for it in PROGRAMS]
     assert texts == ["keydir 0.2.0\n", "provider 0.2.0\n"] and ran.returncode == 0, ("a build", f"{texts} {ran}")
+
+
+def test_unproved(room: Path, prefix: Path) -> None:
+    """A program that isn't proved is not installed, and nothing is built without being asked for."""
+    assert install(room, prefix, CONIKS_UNPROVED="1").returncode == 0, "the proved programs are there"
+    (room / "crates/provider/out/provider").unlink()
+    ran = install(room, prefix.parent / "other", CONIKS_UNPROVED="1")
+    said = "install: provider isn't proved, and CONIKS_UNPROVED is 1: unset it, and the proofs begin\n"
+    assert (ran.returncode, ran.stdout, ran.stderr) == (1, "", said), f"install: {ran}"
+    assert not (prefix.parent / "other").exists() and not (room / "out/unproved").exists(), "nothing is made"
 
 
 def test_processor(room: Path, prefix: Path) -> None:

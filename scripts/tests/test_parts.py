@@ -2,6 +2,7 @@
 
 from __future__ import annotations
 
+import re
 import subprocess
 from pathlib import Path
 from typing import Sequence
@@ -14,9 +15,13 @@ from counting import Tally
 TOP = Path(__file__).resolve().parents[2]
 
 # Files of which no part but the linters says anything: what only a person starts, or what nothing reads.
-ALONE = [".clang-format", ".editorconfig", ".gitignore", "cases/.gitattributes", "HANDLES", "LICENSE"]
+ALONE = [".clang-format", ".editorconfig", "cases/.gitattributes", "HANDLES", "LICENSE"]
 ALONE += ["embed/clients", "embed/test", "examples/readme", "web/test"]
 ALONE += ["embed/python/tests/cluster/cluster_speed.py", "embed/python/tests/provider/lookup_speed.py"]
+
+
+# The parts that read each file, whatever is in it.
+GENERAL = ["linters", "the gate"]
 
 
 def listed() -> list[str]:
@@ -49,6 +54,20 @@ def test_each_file() -> None:
     """Each file belongs to a part beside the linters. Those that don't are listed here."""
     lonely = [it for it in listed() if not any(part.has(it) for part in parts.PARTS if part.name != "linters")]
     assert sorted(lonely) == sorted(ALONE)
+
+
+def test_each_document() -> None:
+    """A part whose tests, or what they share, read a page of docs/ runs if that page changes."""
+    reads = re.compile(r'(?:\bTOP / |\bread\(|\bReadFile\()"(?:\.\./)*(docs/\w+\.md)"')
+    found = [
+        (it, page)
+        for it in listed()
+        if it.endswith((".py", ".mjs", ".go"))
+        for page in reads.findall((TOP / it).read_text("utf-8"))
+    ]
+    assert len(found) > 5
+    reading = [(part, page) for part in parts.PARTS for file, page in found if part.name not in GENERAL and part.has(file)]
+    assert [(part.name, page) for part, page in reading if not part.has(page)] == []
 
 
 def test_names() -> None:

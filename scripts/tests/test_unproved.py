@@ -13,7 +13,8 @@ import tools
 
 TOP = Path(__file__).resolve().parents[2]
 OUT = TOP / "out/unproved"
-NAMES = re.findall(r"^[a-z0-9_]* (coniks_[a-z_]*)\(", (TOP / "include/coniks.h").read_text("utf-8"), re.M)
+HEADERS = "".join((TOP / "include" / it).read_text("utf-8") for it in ("coniks.h", "coniks_core.h"))
+NAMES = re.findall(r"^[a-z0-9_]* (coniks_[a-z_]*)\(", HEADERS, re.M)
 
 # Prints the version, and the length and the text of a status.
 PROGRAM = """#include <stdio.h>

@@ -466,20 +466,34 @@ CHANGES = {
 }
 
 
-@pytest.mark.parametrize("change", CHANGES.values(), ids=CHANGES)
-def test_changed(visitor: Visitor, change: str) -> None:
-    """A database that was changed is not used, and not taken for a first visit: the user decides to forget it."""
+def check_refused(visitor: Visitor, change: str, why: str) -> None:
+    """A database after a change is not used, and not taken for a first visit: the user decides to forget it."""
     visitor.begin()
     visitor.browser.value(
         f"""(async change => {{ const store = keeping_.browserStore; const before = await store.read();
         if (!await store.replace(before, change(before.slice()))) throw Error('not stored'); }})({change})"""
     )
-    assert "was changed" in visitor.look("alice") and not visitor.is_verified
-    assert "was changed" in visitor.open() and not visitor.shows("begin") and visitor.shows("stored")
+    assert why in visitor.look("alice") and not visitor.is_verified
+    assert why in visitor.open() and not visitor.shows("begin") and visitor.shows("stored")
     visitor.press("forget")
     assert visitor.shows("begin") and not visitor.shows("stored")
     visitor.begin()
     assert visitor.look("alice").startswith("Verified")
+
+
+@pytest.mark.parametrize("change", CHANGES.values(), ids=CHANGES)
+def test_changed(visitor: Visitor, change: str) -> None:
+    check_refused(visitor, change, "what this browser has stored was changed")
+
+
+# A client's state of version 1, with its digest: no name is watched in it.
+EARLIER = """it => { const kept = JSON.parse(new TextDecoder().decode(it.slice(32))); const state = bytes_.fromHex(kept.state).slice(0, -32);
+    state[0] = 1; kept.state = bytes_.toHex(bytes_.joined(state, sha256_.sha256(state)));
+    const text = new TextEncoder().encode(JSON.stringify(kept)); return bytes_.joined(sha256_.sha256(text), text); }"""
+
+
+def test_earlier_version(visitor: Visitor) -> None:
+    check_refused(visitor, EARLIER, "what this browser has stored is of another version of this page: reload the page")
 
 
 def test_two_tabs(visitor: Visitor) -> None:

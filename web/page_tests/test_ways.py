@@ -16,6 +16,7 @@ from typing import Any, Callable, Sequence
 import pytest
 import samples
 from browser import FRESH, HOST, PAGE, WEB, Browser, count, note, paste, press, set_keys, standings, texts, wait
+from computing import Computing
 from given import DEMONSTRATION, ENTRIES, LOOKUPS, PROVIDED, SIGNING, UNSIGNED, VRF, case, text_of
 from test_results import check_demonstration, check_provider
 
@@ -24,15 +25,16 @@ SEED = 30
 # Adds a line to the end of the run.
 Say = Callable[[str], None]
 
-# Milliseconds for which the page may not answer, and how often that is tried. On idle cores it is less than 100, to which STOP=100
-# holds it; beside other processes a browser waits for its turn.
+# Milliseconds for which the page may compute without an answer, and how often that is tried. On idle cores it is less than 100, to
+# which STOP=100 holds it. Time for which the machine lets the browser wait is none of the page's.
 STOP, TRIES = int(os.environ.get("STOP", "250")), 4
 
 # Seconds in which the page shows its example, milliseconds of a lookup with all its steps, and bytes of the page.
 OPENS, SLOWEST, LARGEST = 1, 50, 150_000
 
-TICKING = """window.longest = 0; window.last = 0; (function tick() { const now = performance.now();
-    window.longest = Math.max(window.longest, now - window.last); window.last = now; window.ticking = setTimeout(tick); })(); 1"""
+# Lists the stops of the page: between which times, in Unix milliseconds, nothing else could run.
+TICKING = """window.stops = []; window.last = Infinity; (function tick() { const now = performance.timeOrigin + performance.now();
+    if (now - window.last > 50) window.stops.push([window.last, now]); window.last = now; window.ticking = setTimeout(tick); })(); 1"""
 WHEN_READING = """window.seen = false; new MutationObserver(() => { const it = document.getElementById('reading');
     if (!it.hidden) { window.seen = document.getElementById('progress').value > 0; document.getElementById('cancel').click(); } }).observe(document.getElementById('reading'), { attributes: true }); 1"""
 
@@ -40,7 +42,7 @@ WHEN_READING = """window.seen = false; new MutationObserver(() => { const it = d
 def paste_long(browser: Browser, text: str) -> float:
     """Pastes a text as the browser does from its clipboard."""
     browser.value(
-        f"""{FRESH} (data => {{ data.setData('text/plain', {json.dumps(text)}); window.longest = 0; window.last = performance.now(); document.getElementById('lines').dispatchEvent(new ClipboardEvent('paste', {{ clipboardData: data, cancelable: true, bubbles: true }})); }})(new DataTransfer()); 1"""
+        f"""{FRESH} (data => {{ data.setData('text/plain', {json.dumps(text)}); window.stops = []; window.last = performance.timeOrigin + performance.now(); document.getElementById('lines').dispatchEvent(new ClipboardEvent('paste', {{ clipboardData: data, cancelable: true, bubbles: true }})); }})(new DataTransfer()); 1"""
     )
     return wait(browser)
 
@@ -242,9 +244,12 @@ def stopped_for(browser: Browser, text: str, what: str, say: Say) -> float:
     longest: float = STOP
     for _ in range(TRIES):
         browser.value(TICKING)
-        took = paste_long(browser, text)
-        longest = browser.value("clearTimeout(window.ticking); window.longest")
-        say(f"{what} in {took:.1f} s, the longest stop {longest:.0f} ms")
+        with Computing(browser.driver.service.process.pid) as computing:
+            took = paste_long(browser, text)
+            stops = browser.value("clearTimeout(window.ticking); window.stops")
+        longest = max([0.0, *(computing.between(*it) for it in stops)])
+        waited = max([0.0, *(end - begin for begin, end in stops)])
+        say(f"{what} in {took:.1f} s, the longest stop {waited:.0f} ms, in which the page computed for at most {longest:.0f} ms")
         if longest < STOP:
             break
     assert longest < STOP, (f"the page answers meanwhile: {what}", longest)
