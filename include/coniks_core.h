@@ -414,6 +414,14 @@ uint32_t coniks_core_report(const coniks_present *present, const coniks_kept *ke
                             const coniks_promise *promise, const coniks_alarm *alarms, size_t alarm_count,
                             const uint64_t *marks, size_t mark_count, size_t quorum, coniks_report *report);
 
+/*
+ * Returns 1 if the kept epoch at a place is missing and lost: the policy promises no proof of it any more. Else returns 0, also if there is
+ * no epoch at the place.
+ */
+CONIKS_NODISCARD CONIKS_NONNULL((1, 2))
+uint32_t coniks_core_lost(const coniks_present *present, const coniks_promise *promise, const coniks_kept *kept, size_t count,
+                          size_t place);
+
 /* Writes the number of entries of a catch-up, 209 bytes each: feed them one after another. Returns CONIKS_GOOD, or 68. */
 CONIKS_NODISCARD CONIKS_NONNULL((3))
 uint32_t coniks_core_catch_up(const uint8_t *catch_up, size_t catch_up_length, size_t *count);

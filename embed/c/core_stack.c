@@ -20,7 +20,7 @@ enum {
 static const char *const names[] = {"nothing",     "feed",        "reply_needs", "lookup",   "watch",         "expect",
                                     "compare",     "evidence",    "quorum",      "mark",     "confirmed",     "relied",
                                     "start",       "cover",       "report",      "history",  "history_needs", "state_size",
-                                    "state_write", "state_needs", "state_read",  "catch_up", "note"};
+                                    "state_write", "state_needs", "state_read",  "catch_up", "note",          "lost"};
 
 static uint8_t reply[REPLY], history[HISTORY], state[STATE];
 static coniks_siblings siblings;
@@ -125,6 +125,9 @@ static void *call(void *which)
         break;
     case 22:
         status = coniks_core_note(alarms, 2, &alarm_count, 1);
+        break;
+    case 23:
+        status = coniks_core_lost(&present, &promise, kept, 1, 0);
         break;
     default:
         break;

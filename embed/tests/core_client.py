@@ -291,6 +291,13 @@ class Beside(AlarmClient):
         assert (told.verdict, told.start, told.end) == (REPORTS.index(what) + 1, epochs[0], epochs[-1]), (answer, told.verdict)
         return answer
 
+    def lost(self, now: int) -> second.Answer:
+        answer, memory, (present, limit) = super().lost(now), Memory(self), present_of(self, now)
+        CALLS["lost"] += 1
+        told = [LIBRARY.coniks_core_lost(of(present), of(limit), memory.kept, memory.count, SIZE(it)) for it in range(len(self.kept) + 1)]
+        assert [*map(bool, told)] == [*(it.entry.epoch in answer["lost"] for it in self.kept), False], (answer, told)
+        return answer
+
     def compare(self, epoch: int, link: bytes) -> second.Answer:
         answer, memory, place = super().compare(epoch, link), Memory(self), SIZE(NOWHERE)
         found = LIBRARY.coniks_core_compare(memory.kept, memory.count, U64(epoch), link, of(place))

@@ -23,6 +23,7 @@ CASES = [it for it in cases() if it["name"] != core_client.SIGNED_AGAIN]
 # The calls of include/coniks_core.h, and the bytes of stack that each may take.
 CALLS = {"feed", "reply_needs", "lookup", "watch", "expect", "compare", "evidence", "catch_up", "history_needs", "history"}
 CALLS |= {
+    "lost",
     "quorum",
     "mark",
     "confirmed",

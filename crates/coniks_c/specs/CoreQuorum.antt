@@ -8,6 +8,7 @@ use Rattle.coniks_client.specs.declared.kept.Kept.{Kept}
 use Rattle.coniks_client.specs.declared.times.Present.{Present}
 use Rattle.coniks_quorum.specs.Alarms.{alarms_of}
 use Rattle.coniks_quorum.specs.Covering.{IsCoverable}
+use Rattle.coniks_quorum.specs.Lost.{lost_at}
 use Rattle.coniks_quorum.specs.Marks.{IsGreatest, ReachesNone}
 use Rattle.coniks_quorum.specs.declared.alarms.Alarm.{Alarm}
 use Rattle.coniks_quorum.specs.declared.lost.Promise.{Promise}
@@ -40,6 +41,12 @@ misused_start count quorum heads room = if nat_lt 0 count then 140 else (if quor
 -- how long the policy promises proofs: for this many seconds, if the number says so, else forever
 abbrev pub promise_in : RawPromise → Promise
 promise_in raw = if raw.is_limited == 1 then Seconds raw.seconds else Forever
+
+-- 1 if this kept epoch of a place is missing and lost, else 0
+abbrev pub lost_number : Present → Promise → List Kept → ℕ → Option Kept → ℕ
+lost_number present promise kept place None = 0
+lost_number present promise kept place (Some mine) =
+    if mine.seen == 5 then (if lost_at present promise kept place then 1 else 0) else 0
 
 -- what is written of a report: its number and its epochs
 abbrev pub raw_report : Report → RawReport

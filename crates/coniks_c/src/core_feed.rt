@@ -63,8 +63,8 @@ fn store(kept: &mut [Kept], count: &mut usize, accepted: &Accepted)
     }
 }
 
-/// Sets the marks at an epoch to 0 whose entry was signed again.
-fn remark(marks: &mut [u64], accepted: &Accepted)
+/// Sets the marks at an epoch to 0 if its entry was signed again.
+fn reset_marks(marks: &mut [u64], accepted: &Accepted)
     ensures { AreMarksWith marks.old marks.new accepted.now }
 {
     match accepted {
@@ -126,7 +126,7 @@ pub extern "C" fn coniks_core_feed(
                 return NO_ROOM;
             }
             store(kept, count, &accepted);
-            remark(marks, &accepted);
+            reset_marks(marks, &accepted);
             GOOD
         }
         Err(fault) => {

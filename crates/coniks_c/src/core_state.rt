@@ -326,7 +326,7 @@ fn put_changes<'a>(parts: &State<'a>, changes: &mut [Change<'a>]) -> usize
 /// `trust` is the SHA-256 of the trust document that the client names, and `marks` has a place for each of its auditors.
 ///
 /// Returns 0: the first `count` kept epochs, the watched name, the first `change_count` changes and the first `alarm_count` alarms are those
-/// of the state. So are the marks, if the state is of the same trust document and of the same number of auditors; else they are 0. Else
+/// of the state. So are the marks, if the state is of the same trust document and of the same number of auditors, and 0 if not. Otherwise
 /// returns the first error in this order, and writes nothing: 96 to 100 if the bytes are no state of a client of this policy, 137 if there
 /// is no room for its epochs, its changes or its alarms, 101 if an entry's signature, policy or form is wrong, or it does not follow the one
 /// before.

@@ -12,6 +12,7 @@ mod core_cover;
 mod core_feed;
 mod core_history;
 mod core_lookup;
+mod core_lost;
 mod core_quorum;
 mod core_report;
 mod core_start;
@@ -37,6 +38,7 @@ pub use core_history::{
     coniks_core_history_needs,
 };
 pub use core_lookup::{coniks_core_lookup, coniks_core_reply_needs};
+pub use core_lost::coniks_core_lost;
 pub use core_quorum::{
     coniks_core_confirmed, coniks_core_mark, coniks_core_quorum, coniks_core_relied,
 };

@@ -26,6 +26,6 @@ returns-else-not-has_place-clause-client c = λ zero auditors before client.
     let room = c.if-count-kept.false in
     let within : c.args.count.now ≤ length c.args.kept.now = omega arith in
     let kept_is = stored c.args.kept.now c.store.new.kept c.args.count.now c.store.new.count c.in-Ok.accepted within (c.has_place.ensures.0 c.if-not-has_place.false) c.store.ensures in
-    subst (λ (kept : List Kept). IsClient sha256 auditors before kept c.remark.new.marks) (sym kept_is)
+    subst (λ (kept : List Kept). IsClient sha256 auditors before kept c.reset_marks.new.marks) (sym kept_is)
     (client-kept c.args.signature_verdict c.args.policy.now.bytes auditors before (take c.args.count.now c.args.kept.now) c.watch.result c.args.entry.now c.args.time
-    c.args.marks.now c.remark.new.marks c.in-Ok.accepted c.clients.ensures.feed c.clients.ensures.again c.in-Ok.ensures.ok c.remark.ensures client)
+    c.args.marks.now c.reset_marks.new.marks c.in-Ok.accepted c.clients.ensures.feed c.clients.ensures.again c.in-Ok.ensures.ok c.reset_marks.ensures client)
