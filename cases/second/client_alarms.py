@@ -13,8 +13,10 @@ from client import ABSENT, CHANGED, MISSING, SAME, SEEN, Answer, Client, Misuse,
 from client import fits, kept_bytes, kept_of, refused, watch_bytes, watch_of
 from replies import Reader
 
-# The files of cases/client that have the cases of this client.
+# The files of cases/client that have the cases of this client. It passes those of the other files too, but for their states, and but for
+# two: an entry that is signed again, and a lost epoch that stays.
 FILES = ["alarms"]
+OTHERWISE = ["feed: the last body with another signature, signed", "lost: verified, and covered"]
 
 # What an alarm says of its epoch.
 ALARMS = {CHANGED: "changed", ABSENT: "absent", MISSING: "lost"}
@@ -93,18 +95,28 @@ class AlarmClient(Client):
 
     # What is dropped, and what is reported.
 
+    def covered_by(self, epoch: int, link: bytes, now: int) -> Answer:
+        """Drops as if a quorum confirmed the epoch of an equal head. A client without a trust document does."""
+        found = self.compare(epoch, link)
+        if found["compare"] == "equal":
+            self.dropped(self.droppable(now, epoch))
+        return found
+
     def drop(self, now: int) -> Answer:
-        """Drops the first epochs that need not stay, with an alarm of each that was not seen as the same, and old changes."""
-        gone = self.droppable(now)
+        """Drops the first epochs that need not stay."""
+        return self.dropped(self.droppable(now, self.confirmed_epoch))
+
+    def dropped(self, gone: Sequence[second.Kept]) -> Answer:
+        """Drops the first epochs, with an alarm of each that was not seen as the same, and old changes."""
         self.alarms += [Alarm(it.entry.epoch, it.seen) for it in gone if self.is_watched(it) and it.seen != SAME]
         self.kept = self.kept[len(gone) :]
         if self.watched and self.kept:
             self.watched = self.watched.without(self.kept[0].entry.epoch)
         return {"cover": [it.entry.epoch for it in gone]}
 
-    def droppable(self, now: int) -> list[second.Kept]:
+    def droppable(self, now: int, confirmed: Optional[int]) -> list[second.Kept]:
         """The epochs before the first one that must stay. None is dropped if none must."""
-        confirmed, lost = self.confirmed_epoch, self.lost(now)["lost"]
+        lost = self.lost(now)["lost"]
         if confirmed is None:
             return []
         must_stay = [it.entry.epoch >= confirmed or (it.seen == MISSING and it.entry.epoch not in lost) for it in self.kept]
@@ -197,6 +209,8 @@ def stepped(client: AlarmClient, step: Answer, now: int) -> Answer:
         return client.mark(step["auditor"], step["epoch"], bytes.fromhex(step["link"]))
     if do == "note":
         return client.note(step["epoch"])
+    if do == "cover" and "link" in step:
+        return client.covered_by(step["epoch"], bytes.fromhex(step["link"]), now)
     if do in ("cover", "report"):
         return client.drop(now) if do == "cover" else client.report(now)
     if do in ("alarms", "confirmed"):

@@ -8,6 +8,8 @@
 
 #include "client_parts.h"
 
+enum { MANY_HEADS = 64 };
+
 static void *allocate(void *context, size_t size)
 {
     (void)context;
@@ -35,12 +37,6 @@ void coniks_client_begin_settings(coniks_client_settings *settings)
     settings->clock = machine_clock;
     settings->max_age = CONIKS_CLIENT_TWO_PERIODS;
     settings->skew = 300;
-}
-
-/* A number of seconds, of which two can be added. */
-static uint64_t capped(uint64_t seconds)
-{
-    return seconds < INT64_MAX ? seconds : INT64_MAX;
 }
 
 /* Takes the keys, and checks that they are those of the policy document. */
@@ -80,15 +76,37 @@ static uint32_t take_policy(coniks_client *client, const coniks_client_settings 
     return 0;
 }
 
+/* Takes the trust document, and makes a mark for each of its auditors. */
+static uint32_t take_trust(coniks_client *client, const coniks_client_settings *settings)
+{
+    const coniks_client_memory *memory = &client->memory;
+    if (settings->trust == NULL)
+        return 0;
+    client->trust = *settings->trust;
+    client->auditors = settings->auditors;
+    client->quorum = coniks_core_quorum(settings->auditors, settings->faulty);
+    if (client->quorum == 0 || client->auditors > SIZE_MAX / sizeof *client->marks)
+        return CONIKS_CLIENT_E_QUORUM;
+    client->marks = memory->allocate(memory->context, client->auditors * sizeof *client->marks);
+    if (client->marks == NULL)
+        return CONIKS_CLIENT_E_MEMORY;
+    memset(client->marks, 0, client->auditors * sizeof *client->marks);
+    return 0;
+}
+
 static uint32_t take_settings(coniks_client *client, const coniks_client_settings *settings)
 {
-    uint64_t two_periods;
+    uint64_t period;
     uint32_t status = take_policy(client, settings);
     if (status == 0)
         status = take_keys(client, settings);
-    two_periods = 2 * capped(client->policy.period);
-    client->max_age = capped(settings->max_age == CONIKS_CLIENT_TWO_PERIODS ? two_periods : settings->max_age);
-    client->skew = capped(settings->skew);
+    if (status == 0)
+        status = take_trust(client, settings);
+    period = client->policy.period;
+    client->max_age = settings->max_age;
+    if (settings->max_age == CONIKS_CLIENT_TWO_PERIODS)
+        client->max_age = period <= UINT64_MAX / 2 ? 2 * period : UINT64_MAX;
+    client->skew = settings->skew;
     client->clock = settings->clock;
     client->clock_context = settings->clock_context;
     return status;
@@ -116,14 +134,8 @@ uint32_t coniks_client_new(coniks_client **client, const coniks_client_settings 
 
 void coniks_client_free(coniks_client *client)
 {
-    coniks_client_memory memory;
-    if (client == NULL)
-        return;
-    memory = client->memory;
-    client_free_watch(client);
-    if (client->kept)
-        memory.release(memory.context, client->kept);
-    memory.release(memory.context, client);
+    if (client)
+        client_free_all(client);
 }
 
 /* Gives a client to the caller, or frees it if there is an error. */
@@ -142,31 +154,63 @@ uint32_t coniks_client_resume(coniks_client **client, const coniks_client_settin
     return status ? status : hand_over(client, *client, client_take_state(*client, client_slice_of(state, state_length)));
 }
 
-/* Whether so many auditors have a head that is this entry's, and no other one for its epoch. */
-static uint32_t count_heads(const struct kept *kept, const coniks_client_head *heads, size_t head_count, size_t least)
+coniks_present client_present(const coniks_client *client)
 {
-    size_t i, equal = 0;
-    for (i = 0; i < head_count; i++) {
-        if (heads[i].epoch != kept->body.epoch)
-            continue;
-        if (memcmp(&heads[i].link, &kept->link, sizeof kept->link) != 0)
-            return CONIKS_CLIENT_E_AUDITORS_DIFFER;
-        equal++;
-    }
-    return equal >= least ? 0 : CONIKS_CLIENT_E_NOT_VOUCHED;
+    coniks_present it = {0};
+    it.has_clock = client->policy.period > 0;
+    it.start = client->policy.start;
+    it.period = client->policy.period;
+    it.max_age = client->max_age;
+    it.skew = client->skew;
+    it.time = client->clock(client->clock_context);
+    return it;
 }
 
-static uint32_t begin_with(coniks_client *client, const uint8_t *entry, size_t entry_length, const coniks_client_head *heads,
-                           size_t head_count, size_t least, coniks_client_refusal *why)
+uint64_t client_epoch_of(const coniks_kept *kept)
 {
-    uint32_t status = client_verify_entry(client, entry, entry_length, why);
-    if (status == 0)
-        status = client_reserve(client, 1);
-    if (status == 0)
-        status = client_fill_kept(client->kept, entry, client_time_of(client), SEEN_UNWATCHED);
-    if (status == 0)
-        status = count_heads(client->kept, heads, head_count, least);
-    client->count = status ? 0 : 1;
+    coniks_body body;
+    return coniks_entry_body(kept->entry, sizeof kept->entry, &body) == CONIKS_GOOD ? body.epoch : 0;
+}
+
+void client_explain(const coniks_client *client, const uint8_t *entry, const coniks_why *why, coniks_client_refusal *to)
+{
+    coniks_client_evidence *evidence = &to->evidence;
+    to->status = why->status;
+    evidence->kind = why->kind;
+    if (why->kind == 0)
+        return;
+    memcpy(evidence->mine, why->mine == SIZE_MAX ? entry : client->kept[why->mine].entry, sizeof evidence->mine);
+    memcpy(evidence->other, entry, sizeof evidence->other);
+}
+
+/* The heads of auditors as the core takes them. */
+static void copy_heads(const coniks_client_head *heads, size_t count, coniks_head *copies)
+{
+    size_t i;
+    for (i = 0; i < count; i++) {
+        copies[i].is_there = 1;
+        copies[i].epoch = heads[i].epoch;
+        copies[i].link = heads[i].link;
+    }
+}
+
+/* Begins with an entry. */
+static uint32_t start(coniks_client *client, struct slice entry, const coniks_client_head *heads, size_t head_count,
+                      size_t least, coniks_client_refusal *why)
+{
+    coniks_head copies[MANY_HEADS];
+    uint64_t time = client->clock(client->clock_context);
+    coniks_why reason = {0};
+    uint32_t status = client_reserve(client, 1, 0);
+    if (status)
+        return status;
+    memset(copies, 0, sizeof copies);
+    copy_heads(heads, head_count < MANY_HEADS ? head_count : MANY_HEADS, copies);
+    status = coniks_core_start(&client->policy.digest, client->kept, client->room, &client->count, &client->watch, copies,
+                               head_count, least, entry.bytes, entry.length,
+                               client_signature_verdict(client, entry.bytes, entry.length), time, &reason);
+    if (status && why)
+        client_explain(client, entry.bytes, &reason, why);
     return status;
 }
 
@@ -179,197 +223,55 @@ uint32_t coniks_client_vouched(coniks_client **client, const coniks_client_setti
         memset(why, 0, sizeof *why);
     if (status == 0 && least == 0)
         status = CONIKS_CLIENT_E_LEAST;
+    else if (status == 0 && head_count > MANY_HEADS)
+        status = CONIKS_CLIENT_E_MANY_HEADS;
     else if (status == 0)
-        status = begin_with(*client, entry, entry_length, heads, head_count, least, why);
+        status = start(*client, client_slice_of(entry, entry_length), heads, head_count, least, why);
     return hand_over(client, *client, status);
 }
 
-struct kept *client_latest(const coniks_client *client)
+/* Feeds an entry. The core is asked again once there is room. */
+static uint32_t feed(coniks_client *client, struct slice entry, coniks_client_refusal *why)
 {
-    return client->count ? &client->kept[client->count - 1] : NULL;
-}
-
-/* How many of the kept entries have an epoch of at most this one. */
-static size_t count_until(const coniks_client *client, uint64_t epoch)
-{
-    size_t low = 0, high = client->count;
-    while (low < high) {
-        size_t middle = low + (high - low) / 2;
-        if (client->kept[middle].body.epoch <= epoch)
-            low = middle + 1;
-        else
-            high = middle;
-    }
-    return low;
-}
-
-struct kept *client_kept_at(const coniks_client *client, uint64_t epoch)
-{
-    size_t until = count_until(client, epoch);
-    return until && client->kept[until - 1].body.epoch == epoch ? &client->kept[until - 1] : NULL;
-}
-
-uint32_t client_reserve(coniks_client *client, size_t more)
-{
-    const coniks_client_memory *memory = &client->memory;
-    size_t room = client->room,
-           most = UINT32_MAX < SIZE_MAX / sizeof(struct kept) ? UINT32_MAX : SIZE_MAX / sizeof(struct kept);
-    struct kept *kept;
-    if (more <= room - client->count)
-        return 0;
-    if (more > most - client->count)
-        return CONIKS_CLIENT_E_MEMORY;
-    room = client->count + more;
-    if (room < 2 * client->count && 2 * client->count <= most)
-        room = 2 * client->count;
-    kept = memory->allocate(memory->context, room * sizeof *kept);
-    if (kept == NULL)
-        return CONIKS_CLIENT_E_MEMORY;
-    if (client->kept) {
-        memcpy(kept, client->kept, client->count * sizeof *kept);
-        memory->release(memory->context, client->kept);
-    }
-    client->kept = kept;
-    client->room = room;
-    return 0;
-}
-
-uint32_t client_fill_kept(struct kept *kept, const uint8_t *entry, uint64_t time, uint8_t seen)
-{
-    uint32_t status = coniks_entry_body(entry, CONIKS_ENTRY_BYTES, &kept->body);
-    memcpy(kept->entry, entry, CONIKS_ENTRY_BYTES);
-    kept->first_seen = time;
-    kept->seen = seen;
-    return status ? status : coniks_link(entry, CONIKS_ENTRY_BYTES, &kept->link);
-}
-
-/* Checks the length and the signature of an entry. */
-static uint32_t verify_signature(const coniks_client *client, const uint8_t *entry, size_t length)
-{
-    const coniks_client_signatures *own = &client->signatures;
-    int is_valid;
-    if (length != CONIKS_ENTRY_BYTES)
-        return CONIKS_E_ENTRY_LENGTH;
-    if (own->verify)
-        is_valid = own->verify(own->context, entry, entry + CONIKS_BODY_BYTES);
-    else
-        is_valid =
-            client_is_signature(&client->signing_key, client_slice_of(entry, CONIKS_BODY_BYTES), entry + CONIKS_BODY_BYTES);
-    return is_valid == 1 ? 0 : CONIKS_E_SIGNATURE;
-}
-
-uint32_t client_verify_entry(const coniks_client *client, const uint8_t *entry, size_t length, coniks_client_refusal *why)
-{
-    coniks_body body;
-    uint32_t kind, status = verify_signature(client, entry, length);
-    if (status == 0)
-        status = coniks_entry_body(entry, length, &body);
-    if (status)
-        return status;
-    if (memcmp(&body.policy, &client->policy.digest, sizeof body.policy) != 0)
-        status = CONIKS_CLIENT_E_OTHER_POLICY;
-    else if (coniks_convicts(entry, length, entry, length, &kind) != CONIKS_NO_EVIDENCE)
-        status = CONIKS_CLIENT_E_MALFORMED;
-    if (status && why)
-        client_convict(client, entry, &why->evidence);
-    return status;
-}
-
-static int convicts(const uint8_t *mine, const uint8_t *other, coniks_client_evidence *evidence)
-{
-    if (coniks_convicts(mine, CONIKS_ENTRY_BYTES, other, CONIKS_ENTRY_BYTES, &evidence->kind) != CONIKS_GOOD)
-        return 0;
-    memcpy(evidence->mine, mine, CONIKS_ENTRY_BYTES);
-    memcpy(evidence->other, other, CONIKS_ENTRY_BYTES);
-    return 1;
-}
-
-void client_convict(const coniks_client *client, const uint8_t *entry, coniks_client_evidence *evidence)
-{
-    coniks_body body;
-    size_t i;
-    memset(evidence, 0, sizeof *evidence);
-    if (coniks_entry_body(entry, CONIKS_ENTRY_BYTES, &body))
-        return;
-    /* Another policy and a wrong form convict with each entry, so with the first; bodies overlap with few. */
-    if (client->count && convicts(client->kept[0].entry, entry, evidence))
-        return;
-    for (i = count_until(client, body.previous_epoch); i < client->count; i++) {
-        if (client->kept[i].body.previous_epoch >= body.epoch)
+    const uint32_t is_signed = client_signature_verdict(client, entry.bytes, entry.length);
+    uint64_t time = client->clock(client->clock_context);
+    coniks_why reason = {0};
+    uint32_t status;
+    for (;;) {
+        status = coniks_core_feed(&client->policy.digest, client->kept, client->room, &client->count, &client->watch,
+                                  client->marks, client->auditors, entry.bytes, entry.length, is_signed, time, &reason);
+        if (status != CONIKS_CORE_E_NO_ROOM)
             break;
-        if (convicts(client->kept[i].entry, entry, evidence))
-            return;
+        status = client_reserve(client, 1, client->alarm_count);
+        if (status)
+            return status;
     }
-    if (!convicts(entry, entry, evidence))
-        memset(evidence, 0, sizeof *evidence);
-}
-
-uint32_t client_follow(const struct kept *before, const uint8_t *entry)
-{
-    coniks_auditor auditor;
-    const uint32_t is_verified = 1;
-    coniks_auditor_begin(&auditor);
-    if (before) {
-        auditor.epoch = before->body.epoch;
-        auditor.link = before->link;
-        auditor.nonce = before->body.nonce;
-        auditor.version = before->body.version;
-    }
-    return coniks_auditor_feed(&auditor, entry, CONIKS_ENTRY_BYTES, is_verified);
-}
-
-/* Checks that an entry continues the chain. */
-static uint32_t check_entry(const coniks_client *client, const uint8_t *entry, size_t length, coniks_client_refusal *why)
-{
-    coniks_client_evidence evidence;
-    uint32_t status = client_verify_entry(client, entry, length, why);
-    if (status)
-        return status;
-    status = client_follow(client_latest(client), entry);
-    if (status == 0)
-        return 0;
-    client_convict(client, entry, &evidence);
-    if (evidence.kind == 0)
-        return status;
-    if (why) {
-        why->status = status;
-        why->evidence = evidence;
-    }
-    return CONIKS_CLIENT_E_EQUIVOCATION;
+    if (status && why)
+        client_explain(client, entry.bytes, &reason, why);
+    return status;
 }
 
 uint32_t coniks_client_feed(coniks_client *client, const uint8_t *entry, size_t entry_length, coniks_client_step *step,
                             coniks_client_refusal *why)
 {
-    struct kept *kept;
     uint32_t status;
     if (step)
         memset(step, 0, sizeof *step);
     if (why)
         memset(why, 0, sizeof *why);
-    status = check_entry(client, entry, entry_length, why);
-    if (status == 0)
-        status = client_reserve(client, 1);
-    if (status)
-        return status;
-    kept = &client->kept[client->count];
-    status = client_fill_kept(kept, entry, client_time_of(client), SEEN_UNWATCHED);
-    if (status)
-        return status;
-    kept->seen = client_first_seen(&client->watch, kept->body.epoch);
-    client->count++;
-    if (step) {
-        step->epoch = kept->body.epoch;
-        step->seen = client_told(kept->seen);
+    status = feed(client, client_slice_of(entry, entry_length), why);
+    if (status == 0 && step) {
+        step->epoch = client_epoch_of(&client->kept[client->count - 1]);
+        step->seen = client->kept[client->count - 1].seen;
     }
-    return 0;
+    return status;
 }
 
 uint32_t coniks_client_catch_up(coniks_client *client, const uint8_t *catch_up, size_t length, coniks_client_step *steps,
                                 size_t *accepted, coniks_client_refusal *why)
 {
-    size_t done = 0, count = length / CONIKS_ENTRY_BYTES;
-    uint32_t status = length % CONIKS_ENTRY_BYTES ? CONIKS_CLIENT_E_CATCH_UP_LENGTH : 0;
+    size_t done = 0, count = 0;
+    uint32_t status = coniks_core_catch_up(catch_up, length, &count);
     if (why)
         memset(why, 0, sizeof *why);
     while (status == 0 && done < count) {
@@ -385,13 +287,12 @@ uint32_t coniks_client_catch_up(coniks_client *client, const uint8_t *catch_up, 
 
 uint32_t coniks_client_latest(const coniks_client *client, coniks_client_head *head)
 {
-    const struct kept *kept = client_latest(client);
+    const coniks_kept *kept = client->count ? &client->kept[client->count - 1] : NULL;
     memset(head, 0, sizeof *head);
     if (kept == NULL)
         return CONIKS_E_NO_ENTRY;
-    head->epoch = kept->body.epoch;
-    head->link = kept->link;
-    return 0;
+    head->epoch = client_epoch_of(kept);
+    return coniks_link(kept->entry, sizeof kept->entry, &head->link);
 }
 
 size_t coniks_client_count(const coniks_client *client)
@@ -406,37 +307,24 @@ const uint8_t *coniks_client_entry(const coniks_client *client, size_t place)
 
 uint32_t coniks_client_compare(const coniks_client *client, const coniks_client_head *head)
 {
-    size_t until = count_until(client, head->epoch);
-    const struct kept *kept = client_kept_at(client, head->epoch);
-    if (kept)
-        return memcmp(&kept->link, &head->link, sizeof head->link) == 0 ? CONIKS_CLIENT_EQUAL : CONIKS_CLIENT_DIFFERS;
-    /* The next entry covers the epoch, or none does. */
-    if (until < client->count && client->kept[until].body.previous_epoch < head->epoch)
-        return CONIKS_CLIENT_DIFFERS;
-    return CONIKS_CLIENT_UNKNOWN;
-}
-
-uint32_t coniks_client_cover(coniks_client *client, const coniks_client_head *head)
-{
-    uint32_t found = coniks_client_compare(client, head);
-    size_t first = 0;
-    if (found != CONIKS_CLIENT_EQUAL)
-        return found;
-    while (client->kept[first].body.epoch < head->epoch && client->kept[first].seen != SEEN_MISSING)
-        first++;
-    client->count -= first;
-    memmove(client->kept, client->kept + first, client->count * sizeof *client->kept);
-    client_settle(client);
-    return found;
+    size_t place;
+    return coniks_core_compare(client->kept, client->count, head->epoch, &head->link, &place);
 }
 
 uint32_t coniks_client_evidence_of(const coniks_client *client, const uint8_t *entry, size_t entry_length,
                                    coniks_client_evidence *evidence)
 {
-    uint32_t status = verify_signature(client, entry, entry_length);
-    memset(evidence, 0, sizeof *evidence);
-    if (status)
-        return status;
-    client_convict(client, entry, evidence);
-    return evidence->kind ? 0 : CONIKS_NO_EVIDENCE;
+    const uint32_t is_signed = client_signature_verdict(client, entry, entry_length);
+    coniks_client_refusal found;
+    coniks_why why = {0};
+    uint32_t status = coniks_core_evidence(client->kept, client->count, entry, entry_length, is_signed, &why);
+    memset(&found, 0, sizeof found);
+    if (status == CONIKS_NO_EVIDENCE) {
+        why.mine = SIZE_MAX;
+        status = coniks_convicts(entry, entry_length, entry, entry_length, &why.kind);
+    }
+    if (status == CONIKS_GOOD)
+        client_explain(client, entry, &why, &found);
+    *evidence = found.evidence;
+    return status;
 }

@@ -1,6 +1,7 @@
 /*
- * A client of a CONIKS key directory in C, over coniks.h and libsodium: it verifies signatures, the chain, VRF proofs, paths and
- * the asked epoch. To take it over, copy client.h, client_parts.h and the eight files of the build line below.
+ * A client of a CONIKS key directory in C, over coniks_core.h and libsodium: it verifies signatures, the chain, VRF proofs, paths and
+ * the asked epoch. What it accepts is decided by the core; here are memory, cryptography and texts. To take it over, copy client.h,
+ * client_parts.h and the nine files of the build line below.
  *
  *     coniks_client_begin_settings(&settings);                    the keys and the policy that the directory publishes
  *     settings.signing_key = &signing_key;
@@ -17,10 +18,10 @@
  * what a call would write is zeroed. Signatures are verified first, so what anyone can send is never an alarm. What convicts the
  * provider is in `struct coniks_client_refusal`: publish it.
  *
- * Memory. The client allocates by `settings.memory`, and frees all of it in coniks_client_free. It keeps up to 820 bytes for each
- * entry, and 32 bytes and the new key for each change of the watched key, until coniks_client_cover drops it. No length in a message
- * decides how much is allocated: beside what is kept, a call allocates at most 9 KiB more than the bytes that it is given. Calls use
- * at most 32 KiB of stack.
+ * Memory. The client allocates by `settings.memory`, and frees all of it in coniks_client_free. It keeps up to 468 bytes for each
+ * entry, 16 for each alarm, 8 for each auditor, and 64 and the new key for each change of the watched key, until it drops them. No
+ * length in a message decides how much is allocated: beside what is kept, a history takes 40 bytes for each kept entry while the call
+ * lasts, and a state 4. Calls use at most 32 KiB of stack.
  *
  * Threads. There is no global state. A client is for one thread at a time, and can't be copied: one of both would miss what the
  * other is fed. Pass its state on instead.
@@ -28,17 +29,17 @@
  * Pointers. A pointer may be NULL only if its length is 0, or if its comment says so. Outputs may not overlap inputs.
  *
  * Limits. A name has 1 to 255 bytes, a key that a proof shows 1 to 16,384, and an expected key fewer than 2^32. Times are Unix
- * times in whole seconds; in a lookup a time, an age or a skew of 2^63 or more counts as 2^63 - 1.
+ * times in whole seconds.
  *
  * Build, in the repository, after embed/build and with libsodium-dev (libsodium 1.0.18):
  *
- *     cd embed/c && cc program.c client.c client_ecvrf.c client_messages.c client_policy.c client_replies.c client_state.c \
- *         client_texts.c client_watch.c -I../../include ../out/libconiks.a -lsodium
+ *     cd embed/c && cc program.c client.c client_ecvrf.c client_memory.c client_policy.c client_replies.c client_state.c \
+ *         client_texts.c client_verdicts.c client_watch.c -I../../include ../out/libconiks.a -lsodium
  */
 #ifndef CONIKS_CLIENT_H
 #define CONIKS_CLIENT_H
 
-#include "coniks.h"
+#include "coniks_core.h"
 
 #ifdef __cplusplus
 extern "C" {
@@ -80,27 +81,31 @@ enum coniks_client_status {
     CONIKS_CLIENT_E_POLICY_KEYS = 114,
 
     /* a call that the caller must not make, or that the machine can't do */
-    CONIKS_CLIENT_E_POLICY_FORM = 128,  /* the policy is no document, or there is neither document nor digest */
-    CONIKS_CLIENT_E_LEAST = 129,        /* no auditor is asked for */
-    CONIKS_CLIENT_E_NAME = 130,         /* a watched name has no byte, or more than 255 */
-    CONIKS_CLIENT_E_EXPECTED_KEY = 131, /* an expected key has no byte, or 2^32 or more */
-    CONIKS_CLIENT_E_OTHER_WATCH = 132,  /* the client watches another name, another key, or from another epoch on */
-    CONIKS_CLIENT_E_NOT_WATCHING = 133, /* the client watches no name */
-    CONIKS_CLIENT_E_CHANGE_OPEN = 134,  /* another change of the key is not over */
-    CONIKS_CLIENT_E_SAME_KEY = 135,     /* the new key is the one that is expected already */
-    CONIKS_CLIENT_E_NOT_LATER = 136,    /* the epoch by which the new key is expected is not after the latest one */
-    CONIKS_CLIENT_E_ROOM = 137,         /* the results need more room */
-    CONIKS_CLIENT_E_MEMORY = 138,       /* an allocation failed */
-    CONIKS_CLIENT_E_SODIUM = 139        /* libsodium can't be initialized */
+    CONIKS_CLIENT_E_POLICY_FORM = 128,   /* the policy is no document, or there is neither document nor digest */
+    CONIKS_CLIENT_E_LEAST = 129,         /* no auditor is asked for */
+    CONIKS_CLIENT_E_NAME = 130,          /* a watched name has no byte, or more than 255 */
+    CONIKS_CLIENT_E_EXPECTED_KEY = 131,  /* an expected key has no byte, or 2^32 or more */
+    CONIKS_CLIENT_E_OTHER_WATCH = 132,   /* the client watches another name, another key, or from another epoch on */
+    CONIKS_CLIENT_E_NOT_WATCHING = 133,  /* the client watches no name */
+    CONIKS_CLIENT_E_CHANGE_OPEN = 134,   /* another change of the key is not over */
+    CONIKS_CLIENT_E_SAME_KEY = 135,      /* the new key is the one that is expected already */
+    CONIKS_CLIENT_E_NOT_LATER = 136,     /* the epoch by which the new key is expected is not after the latest one */
+    CONIKS_CLIENT_E_ROOM = 137,          /* the results need more room */
+    CONIKS_CLIENT_E_NO_AUDITOR = 138,    /* the trust document has no such auditor */
+    CONIKS_CLIENT_E_NOT_CONFIRMED = 139, /* no quorum of auditors confirms an epoch, or this one */
+    CONIKS_CLIENT_E_MANY_HEADS = 142,    /* there are more than 64 heads */
+    CONIKS_CLIENT_E_QUORUM = 144,        /* the auditors that may be faulty, times three, are not fewer than all */
+    CONIKS_CLIENT_E_MEMORY = 145,        /* an allocation failed */
+    CONIKS_CLIENT_E_SODIUM = 146         /* libsodium can't be initialized */
 };
 
 /* What an epoch shows of the watched name. */
 enum coniks_client_seen {
     CONIKS_CLIENT_UNWATCHED = 0,    /* another name, or an epoch that is not watched */
     CONIKS_CLIENT_SAME = 1,         /* the expected key, or none if none is expected */
-    CONIKS_CLIENT_KEY_CHANGED = 2,  /* another key, or a key though none is expected */
-    CONIKS_CLIENT_KEY_ABSENT = 3,   /* no key, though one is expected */
-    CONIKS_CLIENT_REPLY_MISSING = 4 /* no reply was accepted for the epoch */
+    CONIKS_CLIENT_KEY_CHANGED = 3,  /* another key, or a key though none is expected */
+    CONIKS_CLIENT_KEY_ABSENT = 4,   /* no key, though one is expected */
+    CONIKS_CLIENT_REPLY_MISSING = 5 /* no reply was accepted for the epoch */
 };
 
 /* What an accepted reply shows. */
@@ -152,8 +157,11 @@ typedef struct coniks_client_settings {
     coniks_client_memory memory;         /* malloc and free */
     uint64_t (*clock)(void *context);    /* returns the Unix time; time(2) */
     void *clock_context;
-    uint64_t max_age; /* how many seconds ago the latest epoch may have begun; CONIKS_CLIENT_TWO_PERIODS */
-    uint64_t skew;    /* how many seconds from now it may begin; 300 */
+    uint64_t max_age;            /* how many seconds ago the latest epoch may have begun; CONIKS_CLIENT_TWO_PERIODS */
+    uint64_t skew;               /* how many seconds from now it may begin; 300 */
+    const coniks_bytes32 *trust; /* the SHA-256 of the trust document, NULL without one; read in the call alone */
+    size_t auditors;             /* the number of its auditors, of which at most `faulty` lie or are silent */
+    size_t faulty;
 } coniks_client_settings;
 
 /* The head of a chain: the epoch and the link of its latest entry. */
@@ -201,21 +209,23 @@ CONIKS_NONNULL((1))
 void coniks_client_begin_settings(coniks_client_settings *settings);
 
 /*
- * Makes a client that has no entry. Returns 0, or CONIKS_CLIENT_E_POLICY_FORM, 112, 113, 114, or an error of the machine; then
- * *client is NULL.
+ * Makes a client that has no entry. Returns 0, or CONIKS_CLIENT_E_POLICY_FORM, 112, 113, 114, CONIKS_CLIENT_E_QUORUM, or an error of
+ * the machine; then *client is NULL.
  */
 CONIKS_NODISCARD CONIKS_NONNULL((1, 2))
 uint32_t coniks_client_new(coniks_client **client, const coniks_client_settings *settings);
 
-/* Makes a client that goes on from the state of another one. Also returns 96 to 101. */
+/* Makes a client that goes on from the state of another one. Its marks are those of the state if that is of the same trust document and
+ * number of auditors, else 0. Also returns 96 to 101. */
 CONIKS_NODISCARD CONIKS_NONNULL((1, 2))
 uint32_t coniks_client_resume(coniks_client **client, const coniks_client_settings *settings, const uint8_t *state,
                               size_t state_length);
 
 /*
  * Makes a client whose chain begins with an entry that at least so many auditors have. `heads` has the head of each auditor for
- * that entry's epoch, one for each; get each from the auditor itself. Also returns the errors of the entry alone (48, 40, 80, 81),
- * 105 and 104. `why` may be NULL.
+ * that entry's epoch, one for each, at most 64; get each from the auditor itself. With a trust document, call coniks_client_mark with each
+ * of them afterwards. Also returns the errors of the entry alone (48, 40, 80, 81), 105, 104, CONIKS_CLIENT_E_LEAST and
+ * CONIKS_CLIENT_E_MANY_HEADS. `why` may be NULL.
  */
 CONIKS_NODISCARD CONIKS_NONNULL((1, 2))
 uint32_t coniks_client_vouched(coniks_client **client, const coniks_client_settings *settings, const uint8_t *entry,
@@ -225,7 +235,9 @@ uint32_t coniks_client_vouched(coniks_client **client, const coniks_client_setti
 /* Frees a client; NULL is none. */
 void coniks_client_free(coniks_client *client);
 
-/* Accepts an entry that continues the chain. Returns 0, or the first error of "A client's chain". `step` and `why` may be NULL. */
+/* Accepts an entry that continues the chain, or the latest one signed again. Returns 0, or the first error of "A client's chain". After
+ * CONIKS_E_PREVIOUS_LINK get the latest entry once more, and feed it before the next one: it may have been signed again. `step` and `why`
+ * may be NULL. */
 CONIKS_NODISCARD CONIKS_NONNULL((1))
 uint32_t coniks_client_feed(coniks_client *client, const uint8_t *entry, size_t entry_length, coniks_client_step *step,
                             coniks_client_refusal *why);
@@ -301,11 +313,43 @@ CONIKS_NODISCARD CONIKS_NONNULL((1, 2))
 uint32_t coniks_client_compare(const coniks_client *client, const coniks_client_head *head);
 
 /*
- * Drops the entries before that of an auditor's head, if it is one of this chain: the auditor's chain has them. Epochs that are
- * missing stay, with what follows them. Returns what coniks_client_compare does.
+ * Drops the entries before that of an auditor's head, if it is one of this chain: the auditor's chain has them. Epochs that are missing
+ * and not lost stay, with what follows them. Each dropped watched epoch that was not the same leaves an alarm. Returns what
+ * coniks_client_compare does. A client with a trust document calls coniks_client_mark and coniks_client_drop.
  */
 CONIKS_NODISCARD CONIKS_NONNULL((1, 2))
 uint32_t coniks_client_cover(coniks_client *client, const coniks_client_head *head);
+
+/* Compares the head that an auditor cosigned, as coniks_client_compare does, and remembers it if it is equal. Verify the cosignature
+ * first. `auditor` is its place in the trust document, from 0 on. Also returns CONIKS_CLIENT_E_NO_AUDITOR. */
+CONIKS_NODISCARD CONIKS_NONNULL((1, 3))
+uint32_t coniks_client_mark(coniks_client *client, size_t auditor, const coniks_client_head *head);
+
+/* Writes the greatest epoch that a quorum of the auditors confirms. Returns 0, or CONIKS_CLIENT_E_NOT_CONFIRMED. */
+CONIKS_NODISCARD CONIKS_NONNULL((1, 2))
+uint32_t coniks_client_confirmed(const coniks_client *client, uint64_t *epoch);
+
+/* Returns 0 if the client may rely on what a kept epoch shows, since a quorum confirms it, or CONIKS_CLIENT_E_NOT_CONFIRMED, or 83. */
+CONIKS_NODISCARD CONIKS_NONNULL((1))
+uint32_t coniks_client_relied(const coniks_client *client, uint64_t epoch);
+
+/* Drops entries as coniks_client_cover does: those before the epoch that a quorum of the auditors confirms. Returns 0, and writes what was
+ * dropped. */
+CONIKS_NODISCARD CONIKS_NONNULL((1, 2))
+uint32_t coniks_client_drop(coniks_client *client, coniks_covered *covered);
+
+/* Writes the alarms of dropped epochs, at most `room`. Returns how many there are. */
+CONIKS_NODISCARD CONIKS_NONNULL((1))
+size_t coniks_client_alarms(const coniks_client *client, coniks_alarm *alarms, size_t room);
+
+/* Takes note of the alarms up to an epoch, which the owner has seen: they are dropped. */
+CONIKS_NONNULL((1))
+void coniks_client_note(coniks_client *client, uint64_t epoch);
+
+/* Reports what the client has seen of the watched name. Returns 0, or CONIKS_CLIENT_E_NOT_WATCHING. Without a trust document the report is
+ * never CONIKS_REPORT_GOOD. */
+CONIKS_NODISCARD CONIKS_NONNULL((1, 2))
+uint32_t coniks_client_report(const coniks_client *client, coniks_report *report);
 
 /*
  * Writes what convicts the provider together with another one's entry. Returns 0 if something does, CONIKS_NO_EVIDENCE if nothing
@@ -316,7 +360,8 @@ uint32_t coniks_client_evidence_of(const coniks_client *client, const uint8_t *e
                                    coniks_client_evidence *evidence);
 
 /*
- * Writes all that the client keeps: 70 bytes, 218 for each epoch, and the watched name. *length is how many bytes these are.
+ * Writes all that the client keeps: 110 bytes, 218 for each epoch, 9 for each alarm, 8 for each auditor, and the watched name. *length
+ * is how many bytes these are.
  * Returns 0, or CONIKS_CLIENT_E_ROOM if there is room for fewer, and writes no part of a state.
  */
 CONIKS_NODISCARD CONIKS_NONNULL((1, 4))

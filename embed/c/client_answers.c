@@ -24,6 +24,9 @@ struct answerer {
     struct blocks blocks;
     int is_refusing;
     uint64_t now;
+    /* of the trust document that the next client names; no auditor is no document */
+    coniks_bytes32 trust;
+    size_t auditors, faulty;
     char **words;
     size_t count;
 };
@@ -170,7 +173,8 @@ static int is_tried_again(struct answerer *it, struct trial *trial, uint32_t sta
 }
 
 static const char *const KINDS[] = {"-", "overlap", "other-policy", "malformed"};
-static const char *const SEEN[] = {"-", "same", "changed", "absent", "missing"};
+static const char *const SEEN[] = {"-", "same", "", "changed", "absent", "missing"};
+static const char *const REPORTS[] = {"", "changed", "missing", "lost", "unwatched", "unconfirmed", "good"};
 static const char *const COMPARISONS[] = {"", "equal", "unknown", "differs"};
 
 static const struct {
@@ -208,7 +212,7 @@ static void print_refusal(uint32_t status, const coniks_client_refusal *why)
     uint32_t own_status = status < CONIKS_CLIENT_E_NO_REPLY ? status : why->status;
     uint8_t text[160];
     size_t i = 0;
-    if (status > CONIKS_CLIENT_E_MEMORY || coniks_client_text(status, text, sizeof text) - 1 >= sizeof text - 1)
+    if (status >= CONIKS_CLIENT_E_MEMORY || coniks_client_text(status, text, sizeof text) - 1 >= sizeof text - 1)
         fail("an error of the machine, or one without a text");
     if (status >= CONIKS_CLIENT_E_POLICY_FORM) {
         puts("misuse");
@@ -266,6 +270,16 @@ static uint32_t make(struct answerer *it, const coniks_client_settings *settings
     return status;
 }
 
+/* Takes the trust document of the next client: its digest, its auditors, and how many of them may be faulty. */
+static void set_trust(struct answerer *it)
+{
+    if (!take32(bytes_at(it, 1), &it->trust))
+        fail("a trust document's digest");
+    it->auditors = (size_t)number(word(it, 2));
+    it->faulty = (size_t)number(word(it, 3));
+    puts("set");
+}
+
 static void begin(struct answerer *it)
 {
     coniks_client_settings settings;
@@ -292,6 +306,10 @@ static void begin(struct answerer *it)
     settings.vrf_key = is_nothing(it, 5) ? NULL : &vrf_key;
     settings.policy = policy.at;
     settings.policy_length = policy.length;
+    settings.trust = it->auditors ? &it->trust : NULL;
+    settings.auditors = it->auditors;
+    settings.faulty = it->faulty;
+    it->auditors = 0;
     status = make(it, &settings, &why);
     free(policy.at);
     if (status)
@@ -480,6 +498,78 @@ static void compare(struct answerer *it)
         puts(COMPARISONS[is_cover ? coniks_client_cover(it->client, &head) : coniks_client_compare(it->client, &head)]);
 }
 
+static void mark(struct answerer *it)
+{
+    coniks_client_head head;
+    uint32_t status;
+    head.epoch = number(word(it, 2));
+    if (!take32(bytes_at(it, 3), &head.link))
+        fail("a link");
+    status = coniks_client_mark(it->client, (size_t)number(word(it, 1)), &head);
+    if (status <= CONIKS_CLIENT_DIFFERS)
+        puts(COMPARISONS[status]);
+    else
+        print_refusal(status, &NO_REASON);
+}
+
+static void print_confirmed(struct answerer *it)
+{
+    uint64_t epoch;
+    if (coniks_client_confirmed(it->client, &epoch))
+        puts("confirmed -");
+    else
+        printf("confirmed %llu\n", (unsigned long long)epoch);
+}
+
+/* Prints the epochs that are dropped: the first of those that were kept. */
+static void drop(struct answerer *it)
+{
+    size_t i, count = coniks_client_count(it->client);
+    uint64_t *epochs = own(count * sizeof *epochs);
+    coniks_covered covered;
+    coniks_body body;
+    for (i = 0; i < count; i++) {
+        if (coniks_entry_body(coniks_client_entry(it->client, i), CONIKS_ENTRY_BYTES, &body))
+            fail("an entry");
+        epochs[i] = body.epoch;
+    }
+    if (coniks_client_drop(it->client, &covered))
+        fail("no room for what is dropped");
+    printf("dropped");
+    for (i = 0; i < covered.epochs; i++)
+        printf(" %llu", (unsigned long long)epochs[i]);
+    putchar('\n');
+    free(epochs);
+}
+
+static void print_alarms(struct answerer *it)
+{
+    size_t i, count;
+    coniks_alarm *alarms;
+    if (it->count > 1)
+        coniks_client_note(it->client, number(word(it, 1)));
+    count = coniks_client_alarms(it->client, NULL, 0);
+    alarms = own(count * sizeof *alarms);
+    if (coniks_client_alarms(it->client, alarms, count) != count)
+        fail("two numbers of alarms");
+    printf("alarms");
+    for (i = 0; i < count; i++)
+        printf(" %llu:%s", (unsigned long long)alarms[i].epoch, SEEN[alarms[i].seen]);
+    putchar('\n');
+    free(alarms);
+}
+
+static void print_report(struct answerer *it)
+{
+    coniks_report report;
+    uint32_t status = coniks_client_report(it->client, &report);
+    if (status) {
+        print_refusal(status, &NO_REASON);
+        return;
+    }
+    printf("report %s %llu %llu\n", REPORTS[report.verdict], (unsigned long long)report.from, (unsigned long long)report.to);
+}
+
 static void print_convicting(struct answerer *it)
 {
     struct bytes entry = bytes_at(it, 1);
@@ -514,10 +604,29 @@ static const struct {
     const char *word;
     void (*call)(struct answerer *it);
 } CALLS[] = {
-    {"begin", begin},       {"vouched", begin},      {"now", set_clock},   {"feed", feed},     {"catchup", catch_up},
-    {"lookup", look_up},    {"history", go_through}, {"watch", watch},     {"expect", expect}, {"missing", print_epochs},
-    {"lost", print_epochs}, {"head", print_head},    {"compare", compare}, {"cover", compare}, {"evidence", print_convicting},
+    {"begin", begin},
+    {"vouched", begin},
+    {"now", set_clock},
+    {"trust", set_trust},
+    {"feed", feed},
+    {"catchup", catch_up},
+    {"lookup", look_up},
+    {"history", go_through},
+    {"watch", watch},
+    {"expect", expect},
+    {"missing", print_epochs},
+    {"lost", print_epochs},
+    {"head", print_head},
+    {"compare", compare},
+    {"cover", compare},
+    {"evidence", print_convicting},
     {"state", print_state},
+    {"mark", mark},
+    {"confirmed", print_confirmed},
+    {"drop", drop},
+    {"alarms", print_alarms},
+    {"note", print_alarms},
+    {"report", print_report},
 };
 
 /* Splits a line into words at its spaces. */
@@ -538,7 +647,7 @@ static void split(struct answerer *it, char *line)
 
 int main(int argc, char **argv)
 {
-    struct answerer it = {NULL, {0, SIZE_MAX}, 0, 0, NULL, 0};
+    struct answerer it = {NULL, {0, SIZE_MAX}, 0, 0, {{0}}, 0, 0, NULL, 0};
     char *line = NULL;
     size_t room = 0, i;
     it.is_refusing = argc == 2 && strcmp(argv[1], "refusing") == 0;

@@ -9,7 +9,8 @@
 #include "client_examples.h"
 #include "client_parts.h"
 
-enum { ROOM = 1 << 17 };
+/* WATCHED is the place of the watch in the example of a state. */
+enum { ROOM = 1 << 17, WATCHED = 37 + 2 * 218 + 4 + 32 + 4 };
 
 static int failures;
 
@@ -178,11 +179,11 @@ static void try_state(void)
     CHECK(coniks_client_count(client) == 2 && memcmp(coniks_client_entry(client, 1), state + 255, CONIKS_ENTRY_BYTES) == 0);
     CHECK(coniks_client_entry(client, 2) == NULL && coniks_client_entry(client, SIZE_MAX) == NULL);
     CHECK(coniks_client_expect(client, (const uint8_t *)"n", 1, 5) == 0);
-    CHECK(coniks_client_state(client, changed, sizeof changed, &length) == 0 && length == 473 + watch_length);
-    CHECK(memcmp(changed, state, 473) == 0 && memcmp(changed + 473, watch, watch_length) == 0);
+    CHECK(coniks_client_state(client, changed, sizeof changed, &length) == 0 && length == WATCHED + watch_length);
+    CHECK(memcmp(changed, state, WATCHED) == 0 && memcmp(changed + WATCHED, watch, watch_length) == 0);
     coniks_client_free(client);
     for (at = 0; at < state_length; at++) {
-        uint32_t wanted = at < 70 ? CONIKS_CLIENT_E_STATE_LENGTH : CONIKS_CLIENT_E_STATE_DAMAGED;
+        uint32_t wanted = at < 110 ? CONIKS_CLIENT_E_STATE_LENGTH : CONIKS_CLIENT_E_STATE_DAMAGED;
         CHECK(coniks_client_resume(&client, &settings, state, at) == wanted && client == NULL);
         again[at] ^= 1;
         wanted = at ? CONIKS_CLIENT_E_STATE_DAMAGED : CONIKS_CLIENT_E_STATE_VERSION;
@@ -190,6 +191,49 @@ static void try_state(void)
         again[at] ^= 1;
     }
     CHECK(coniks_client_resume(&client, &settings, NULL, 0) == CONIKS_CLIENT_E_STATE_LENGTH);
+}
+
+/* The example's state with an alarm and marks, and what becomes of both. */
+static void try_marks(void)
+{
+    static uint8_t marked[ROOM], again[ROOM];
+    coniks_client_settings settings;
+    struct told told;
+    coniks_client *client;
+    coniks_client_head head;
+    coniks_bytes32 trust;
+    coniks_alarm alarm;
+    coniks_report report;
+    uint64_t epoch = 9;
+    size_t again_length, length = read_digits(MARKED, marked);
+    begin_settings(&settings, &told);
+    read_digits(TRUST, trust.bytes);
+    settings.trust = &trust;
+    settings.auditors = 2;
+    settings.faulty = 1;
+    CHECK(coniks_client_new(&client, &settings) == CONIKS_CLIENT_E_QUORUM && client == NULL);
+    settings.faulty = 0;
+    CHECK(coniks_client_resume(&client, &settings, marked, length) == 0);
+    CHECK(coniks_client_state(client, again, sizeof again, &again_length) == 0);
+    CHECK(again_length == length && memcmp(again, marked, length) == 0);
+    CHECK(coniks_client_confirmed(client, &epoch) == 0 && epoch == 2 && coniks_client_relied(client, 2) == 0);
+    CHECK(coniks_client_relied(client, 1) == CONIKS_CLIENT_E_UNKNOWN_EPOCH);
+    CHECK(coniks_client_alarms(client, NULL, 0) == 1 && coniks_client_alarms(client, &alarm, 1) == 1);
+    CHECK(alarm.epoch == 1 && alarm.seen == CONIKS_CLIENT_KEY_CHANGED);
+    CHECK(coniks_client_report(client, &report) == 0);
+    CHECK(report.verdict == CONIKS_REPORT_CHANGED && report.from == 1 && report.to == 1);
+    coniks_client_note(client, 0);
+    CHECK(coniks_client_alarms(client, NULL, 0) == 1);
+    coniks_client_note(client, 1);
+    CHECK(coniks_client_alarms(client, NULL, 0) == 0);
+    CHECK(coniks_client_latest(client, &head) == 0);
+    CHECK(coniks_client_mark(client, 1, &head) == CONIKS_CLIENT_EQUAL);
+    CHECK(coniks_client_mark(client, 2, &head) == CONIKS_CLIENT_E_NO_AUDITOR);
+    coniks_client_free(client);
+    settings.auditors = 3;
+    CHECK(coniks_client_resume(&client, &settings, marked, length) == 0);
+    CHECK(coniks_client_confirmed(client, &epoch) == CONIKS_CLIENT_E_NOT_CONFIRMED);
+    coniks_client_free(client);
 }
 
 static void try_lengths(void)
@@ -336,127 +380,6 @@ static void try_misuse(void)
     CHECK(coniks_client_expect(client, new_key, 1, 2) == CONIKS_CLIENT_E_NOT_LATER);
     CHECK(coniks_client_expect(client, new_key, 1, 3) == 0);
     CHECK(coniks_client_expect(client, NULL, 0, 9) == CONIKS_CLIENT_E_CHANGE_OPEN);
-    coniks_client_free(client);
-}
-
-/* Feeds entries that nobody signed, up to an epoch. All entries are kept. */
-static void feed_until(coniks_client *client, uint64_t last)
-{
-    uint8_t entry[CONIKS_ENTRY_BYTES];
-    coniks_client_head head;
-    uint64_t epoch;
-    for (epoch = coniks_client_count(client) + 1; epoch <= last; epoch++) {
-        CHECK(coniks_client_latest(client, &head) == (epoch == 1 ? CONIKS_E_NO_ENTRY : 0));
-        make(epoch, &head, entry);
-        CHECK(coniks_client_feed(client, entry, sizeof entry, NULL, NULL) == 0);
-    }
-}
-
-/* A client that watches alice from epoch 1 on, for the key `A`, and was fed entries that nobody signed. */
-static coniks_client *watching(struct told *told, uint64_t last)
-{
-    coniks_client_settings settings;
-    coniks_client *client;
-    begin_settings(&settings, told);
-    settings.signatures.verify = verify;
-    settings.signatures.context = told;
-    told->result = 1;
-    CHECK(coniks_client_new(&client, &settings) == 0);
-    CHECK(coniks_client_watch(client, NAME("alice"), (const uint8_t *)"A", 1, NULL) == 0);
-    feed_until(client, last);
-    return client;
-}
-
-/* What an epoch shows with a key of one letter. */
-static uint32_t show(coniks_client *client, uint64_t epoch, char letter)
-{
-    const uint8_t key = (uint8_t)letter;
-    struct kept *kept = client_kept_at(client, epoch);
-    kept->seen = client_seen_at(&client->watch, epoch, client_slice_of(&key, 1));
-    return client_told(kept->seen);
-}
-
-/* Whether epochs from this one on show the same with keys of one letter each. */
-static int are_same(coniks_client *client, uint64_t first, const char *letters)
-{
-    for (; *letters; first++, letters++) {
-        if (show(client, first, *letters) != CONIKS_CLIENT_SAME)
-            return 0;
-    }
-    return 1;
-}
-
-static uint32_t expect(coniks_client *client, const char *key, uint64_t by)
-{
-    return coniks_client_expect(client, (const uint8_t *)key, strlen(key), by);
-}
-
-/* The state of a client is that of one that goes on from it. */
-static void pass_on(coniks_client **client, struct told *told)
-{
-    static uint8_t before[ROOM], after[ROOM];
-    coniks_client_settings settings;
-    size_t length, again;
-    CHECK(coniks_client_state(*client, before, sizeof before, &length) == 0);
-    coniks_client_free(*client);
-    begin_settings(&settings, told);
-    settings.signatures.verify = verify;
-    settings.signatures.context = told;
-    told->result = 1;
-    CHECK(coniks_client_resume(client, &settings, before, length) == 0);
-    CHECK(coniks_client_state(*client, after, sizeof after, &again) == 0);
-    CHECK(length == again && memcmp(before, after, length) == 0);
-}
-
-/* The keys A A B A B, of which epoch 4 is withheld until its change is covered. */
-static void try_old_key_again(void)
-{
-    struct told told;
-    coniks_client *client = watching(&told, 2);
-    coniks_client_head head;
-    CHECK(are_same(client, 1, "AA") && expect(client, "B", 5) == 0);
-    feed_until(client, 5);
-    CHECK(show(client, 3, 'B') == CONIKS_CLIENT_SAME && show(client, 5, 'B') == CONIKS_CLIENT_SAME);
-    CHECK(coniks_client_latest(client, &head) == 0 && coniks_client_cover(client, &head) == CONIKS_CLIENT_EQUAL);
-    CHECK(coniks_client_count(client) == 2 && client->watch.count == 0 && client->watch.key.bytes[0] == 'B');
-    CHECK(show(client, 4, 'A') == CONIKS_CLIENT_KEY_CHANGED && show(client, 4, 'B') == CONIKS_CLIENT_SAME);
-    coniks_client_free(client);
-}
-
-/* The keys A B A B C, of which epoch 2 is withheld until the next change is expected. */
-static void try_new_key_too_early(void)
-{
-    struct told told;
-    coniks_client *client = watching(&told, 1);
-    CHECK(are_same(client, 1, "A") && expect(client, "B", 4) == 0);
-    feed_until(client, 4);
-    CHECK(are_same(client, 3, "AB") && expect(client, "C", 5) == 0);
-    feed_until(client, 5);
-    CHECK(show(client, 2, 'B') == CONIKS_CLIENT_KEY_CHANGED && show(client, 5, 'C') == CONIKS_CLIENT_SAME);
-    pass_on(&client, &told);
-    CHECK(show(client, 2, 'C') == CONIKS_CLIENT_KEY_CHANGED && show(client, 2, 'A') == CONIKS_CLIENT_SAME);
-    coniks_client_free(client);
-}
-
-/* The keys A A A B B C C of an honest directory, which are looked up late and again. */
-static void try_changes_in_a_row(void)
-{
-    struct told told;
-    coniks_client *client = watching(&told, 3);
-    coniks_client_head head;
-    CHECK(show(client, 1, 'A') == CONIKS_CLIENT_SAME && show(client, 3, 'A') == CONIKS_CLIENT_SAME);
-    CHECK(expect(client, "B", 4) == 0 && expect(client, "C", 9) == CONIKS_CLIENT_E_CHANGE_OPEN);
-    feed_until(client, 4);
-    CHECK(coniks_client_latest(client, &head) == 0);
-    feed_until(client, 5);
-    CHECK(are_same(client, 4, "BB") && expect(client, "B", 9) == CONIKS_CLIENT_E_SAME_KEY && expect(client, "C", 6) == 0);
-    feed_until(client, 7);
-    CHECK(are_same(client, 6, "CC") && are_same(client, 2, "A") && are_same(client, 1, "AAABBCC"));
-    pass_on(&client, &told);
-    CHECK(client->watch.count == 2 && are_same(client, 1, "AAABBCC"));
-    CHECK(coniks_client_cover(client, &head) == CONIKS_CLIENT_EQUAL && client->watch.count == 1);
-    pass_on(&client, &told);
-    CHECK(are_same(client, 4, "BBCC") && show(client, 4, 'A') == CONIKS_CLIENT_KEY_CHANGED);
     coniks_client_free(client);
 }
 
@@ -628,13 +551,11 @@ int main(void)
     try_examples();
     try_state();
     try_wrong_states();
+    try_marks();
     try_lengths();
     try_schemes();
     try_evidence();
     try_misuse();
-    try_old_key_again();
-    try_new_key_too_early();
-    try_changes_in_a_row();
     try_settings();
     try_lost();
     try_texts();

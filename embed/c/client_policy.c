@@ -3,6 +3,20 @@
 
 #include "client_parts.h"
 
+/* Bytes that are taken from the front on. */
+struct reader {
+    const uint8_t *at;
+    size_t left;
+};
+
+struct slice client_slice_of(const uint8_t *bytes, size_t length)
+{
+    struct slice it;
+    it.bytes = bytes;
+    it.length = length;
+    return it;
+}
+
 /* Takes the line with a name and a space; the value is the rest of it. Returns 0 if the next line is another one. */
 static int take_value(struct reader *it, const char *name, struct slice *value)
 {
@@ -18,7 +32,8 @@ static int take_value(struct reader *it, const char *name, struct slice *value)
 
 static int is_text(struct slice value, const char *text)
 {
-    return client_is_equal(value, client_slice_of((const uint8_t *)text, strlen(text)));
+    size_t length = strlen(text);
+    return value.length == length && memcmp(value.bytes, text, length) == 0;
 }
 
 static int take_line(struct reader *it, const char *line)
@@ -125,18 +140,4 @@ uint32_t client_read_policy(struct slice document, struct policy *policy)
     policy->has_keys = 1;
     client_hash_bytes(document.bytes, document.length, &policy->digest);
     return 0;
-}
-
-int client_begins_after(const struct policy *policy, uint64_t epoch, uint64_t time)
-{
-    return time < policy->start || epoch - 1 > (time - policy->start) / policy->period;
-}
-
-int client_is_promised(const struct policy *policy, uint64_t following, uint64_t time)
-{
-    if (!policy->has_end)
-        return 1;
-    if (policy->period == 0)
-        return policy->proofs_kept > 0;
-    return time < policy->proofs_kept || client_begins_after(policy, following, time - policy->proofs_kept);
 }

@@ -8,6 +8,7 @@ Bytes are hexadecimal digits, `.` for no byte. `-` stands for nothing: no key, n
 | `begin NOW MAX_AGE SKEW SIGNING_KEY VRF_KEY POLICY STATE`, POLICY is the document | `begun` |
 | `vouched NOW MAX_AGE SKEW SIGNING_KEY VRF_KEY POLICY ENTRY LEAST EPOCH:LINK ..` | `begun` |
 | `now SECONDS` sets the clock | `set` |
+| `trust DIGEST AUDITORS FAULTY`, of the trust document that the next client names | `set` |
 | `feed ENTRY ..`, `catchup BYTES` | `fed EPOCH:SEEN ..`, SEEN is `missing` or `-` |
 | `lookup NAME REPLY EPOCH` | `found EPOCH KEY SEEN AGE FIRST_SEEN` |
 | `history NAME HISTORY` | `found` and these five words for each step |
@@ -19,9 +20,14 @@ Bytes are hexadecimal digits, `.` for no byte. `-` stands for nothing: no key, n
 | `compare EPOCH LINK`, `cover EPOCH LINK` | `equal`, `unknown` or `differs` |
 | `evidence ENTRY` | `evidence KIND MINE OTHER`, or `evidence -` |
 | `state` | `state BYTES` |
+| `mark AUDITOR EPOCH LINK` | `equal`, `unknown` or `differs` |
+| `confirmed` | `confirmed EPOCH`, or `confirmed -` |
+| `drop` | `dropped EPOCH ..` |
+| `alarms`, or `note EPOCH` | `alarms EPOCH:SEEN ..`, those that are left |
+| `report` | `report NAME FIRST LAST` |
 
 KIND is `overlap`, `other-policy` or `malformed`. A refusal is `refused NAME STATUS KIND MINE OTHER`, NAME as in docs/FORMATS.md,
-with `-` for no status and for no evidence. A call that the caller must not make is `misuse`. A program that begins anew forgets the
+with `-` for no status and for no evidence. `trust` and the last five requests are for clients over the core, whose states have version 03. A call that the caller must not make is `misuse`. A program that begins anew forgets the
 client that it had, also if it refuses to begin.
 """
 
@@ -33,11 +39,14 @@ import json
 import random
 import subprocess
 import time
-from typing import Any, Callable, Optional, Sequence, Union
+from dataclasses import dataclass
+from typing import Any, Callable, Iterator, Optional, Sequence, Union
 
 import client as second
+import client_alarms
+from alarm_walks import AlarmWalk
 from alterations import Alterer, causes_in
-from case_runner import Answer, cases
+from case_runner import CASES, Answer, cases
 from client import plain
 from running import Say
 from walks import Walk, seen_in
@@ -111,7 +120,10 @@ REQUESTS: dict[str, Callable[[Answer], list[str]]] = {
     "watch": lambda it: ["watch", word(it["name"]), word(it["key"]), number(it.get("since"))],
     "expect": lambda it: ["expect", word(it["key"]), number(it["by"])],
     "compare": lambda it: ["compare", number(it["epoch"]), word(it["link"])],
-    "cover": lambda it: ["cover", number(it["epoch"]), word(it["link"])],
+    "cover": lambda it: ["cover", number(it["epoch"]), word(it["link"])] if "link" in it else ["drop"],
+    "mark": lambda it: ["mark", number(it["auditor"]), number(it["epoch"]), word(it["link"])],
+    "note": lambda it: ["note", number(it["epoch"])],
+    **{name: lambda it: [it["do"]] for name in ("confirmed", "alarms", "report")},
     "evidence": lambda it: ["evidence", word(it["entry"])],
     "head": lambda it: ["head"],
     "missing": lambda it: ["missing"],
@@ -169,9 +181,28 @@ def answer_of(side: Side, step: Answer, said: list[str]) -> Answer:
         return {"head": None if rest[0] == "-" else [int(rest[0]), rest[1]]}
     if do in ("compare", "cover") and first in ("equal", "unknown", "differs"):
         return {"compare": first}
+    if do in ("mark", "confirmed", "cover", "alarms", "note", "report"):
+        return core_answer_of(do, first, rest)
     if do == "evidence" and first == "evidence":
         return {"evidence": evidence_of(rest)}
     raise Broken(f"{do}: {' '.join(said)[:200]}")
+
+
+def core_answer_of(do: str, first: str, rest: Sequence[str]) -> Answer:
+    """A reply to a call that only a client over the core has."""
+    if do == "mark" and first in ("equal", "unknown", "differs"):
+        return {"mark": first}
+    if do == "confirmed" and first == do:
+        return {"confirmed": number_of(rest[0])}
+    if do == "cover" and first == "dropped":
+        return {"cover": [int(it) for it in rest]}
+    if do in ("alarms", "note") and first == "alarms":
+        return {"alarms": [[epoch, "lost" if seen == "missing" else seen] for epoch, seen in fed(rest)]}
+    if do == "report" and first == "report":
+        first_epoch, last_epoch = map(int, rest[1:])
+        epochs = {"unwatched": [], "unconfirmed": [first_epoch, last_epoch], "good": [first_epoch, last_epoch]}
+        return {"report": [rest[0], *epochs.get(rest[0], [first_epoch])]}
+    raise Broken(f"{do}: {first} {' '.join(rest)[:200]}")
 
 
 def state_of(side: Side) -> bytes:
@@ -184,12 +215,18 @@ def state_of(side: Side) -> bytes:
 def watched_from(state: bytes) -> int:
     """The first watched epoch in a state, which stands after the name."""
     watch = 37 + 218 * int.from_bytes(state[33:37], "big")
+    if state[0] == 3:
+        trust = watch + 4 + 9 * int.from_bytes(state[watch : watch + 4], "big")
+        watch = trust + 36 + 8 * int.from_bytes(state[trust + 32 : trust + 36], "big")
     start = watch + 2 + state[watch + 1]
     return int.from_bytes(state[start : start + 8], "big")
 
 
 def verdicts(side: Side, case: Answer) -> Answer:
     """All that the client of a case returns: when it is made, for each step, and its state at the end."""
+    trust = case.get("trust")
+    if trust:
+        side.ask("trust", word(trust["digest"]), number(trust["auditors"]), number(trust["faulty"]))
     said = side.ask(*begin_words(case))
     if said != ["begun"]:
         return {"begin": answer_of(side, {"do": "begin"}, said), "steps": [], "state": None}
@@ -209,48 +246,77 @@ def verdict(side: Side, case: Answer) -> Any:
         return f"{type(error).__name__}: {error}"
 
 
-def check_cases(side: Side) -> None:
+@dataclass(frozen=True)
+class Kind:
+    """The cases that a client passes, what the second implementation returns for a case, the walks that both go, how many steps more
+    each part of them has, and what they see."""
+
+    cases: Callable[[], Iterator[Answer]]
+    verdicts: Callable[[Answer], Answer]
+    walk: Callable[[random.Random], Walk]
+    steps: int
+    sees: frozenset[str]
+
+
+def core_cases() -> Iterator[Answer]:
+    """The cases of clients over the core: those of version 03, and of the others what they give but for their states."""
     for case in cases():
+        if case.get("state") is None and case["name"] not in client_alarms.OTHERWISE:
+            yield {**case, "gives": {**case["gives"], "state": None}}
+    for name in client_alarms.FILES:
+        yield from map(json.loads, (CASES / f"{name}.jsonl").read_text("utf-8").splitlines())
+
+
+# The client of each language until it is over the core, and the client over the core.
+BY_HAND = Kind(cases, second.verdicts, Walk, 0, frozenset(["same", "changed", "absent", "misuse"]))
+CORE = Kind(core_cases, client_alarms.verdicts, AlarmWalk, 20, frozenset(["same", "changed", "misuse"]))
+
+
+def check_cases(side: Side, kind: Kind) -> None:
+    for case in kind.cases():
         got = verdict(side, case)
         got = plain(got) if isinstance(got, dict) else got
+        if case["gives"]["state"] is None and isinstance(got, dict):
+            got["state"] = None
         assert got == case["gives"], case["name"]
 
 
-def check_alterations(side: Side, count: int, seed: int) -> tuple[set[str], float]:
+def check_alterations(side: Side, kind: Kind, count: int, seed: int) -> tuple[set[str], float]:
     """So many alterations, of which both implementations return the same. Returns the kinds of results, and the program's seconds."""
-    alterer, chance, seen, spent = Alterer(list(cases())), random.Random(seed), set[str](), 0.0
+    alterer, chance, seen, spent = Alterer(list(kind.cases())), random.Random(seed), set[str](), 0.0
     for number in range(count):
         case = alterer.altered(chance)
         before = time.monotonic()
         mine = verdict(side, copy.deepcopy(case))
         spent += time.monotonic() - before
-        theirs = second.verdicts(case)
+        theirs = kind.verdicts(case)
         assert mine == theirs, f"alteration {number} of seed {seed}: {json.dumps(case)}"[:9000]
         seen.update(causes_in(mine))
     return seen, spent
 
 
-def check_walks(side: Side, count: int, seed: int) -> None:
+def check_walks(side: Side, kind: Kind, count: int, seed: int) -> None:
     """So many walks, each of which is interrupted by starts from the state, of which both implementations return the same."""
     seen: set[str] = set()
     for number in range(count):
-        walk, state = Walk(random.Random(f"{seed} {number}")), None
+        walk, state = kind.walk(random.Random(f"{seed} {number}")), None
         for part in range(3):
             case = walk.case(state)
-            mine, theirs = verdict(side, case), second.verdicts(case)
+            case["steps"] += [walk.step() for _ in range(kind.steps)]
+            mine, theirs = verdict(side, case), kind.verdicts(case)
             assert mine == theirs and mine["begin"] == {"begun": True}, f"walk {number} of seed {seed}, part {part}"
             seen.update(seen_in(mine))
             state = state_of(side)
-    assert {"same", "changed", "absent", "misuse"} <= seen, "the walks see changes"
+    assert kind.sees <= seen, "the walks see changes"
 
 
-def check_program(what: str, words: Sequence[str], count: int, seed: int, say: Say) -> None:
+def check_program(what: str, words: Sequence[str], count: int, seed: int, say: Say, kind: Kind = BY_HAND) -> None:
     """All cases over the program of a client, so many alterations, and a quarter as many walks."""
     start, side = time.monotonic(), Side(words)
-    check_cases(side)
+    check_cases(side, kind)
     if count:
-        seen, spent = check_alterations(side, count, seed)
+        seen, spent = check_alterations(side, kind, count, seed)
         say(f"{what}: {count} alterations with {len(seen)} results, of which the program took {spent:.1f} s")
-        check_walks(side, max(1, count // 4), seed)
+        check_walks(side, kind, max(1, count // 4), seed)
     assert side.end() == 0, "the program ends"
     say(f"{what}: {time.monotonic() - start:.0f} s")

@@ -294,7 +294,10 @@ class Beside(AlarmClient):
     def lost(self, now: int) -> second.Answer:
         answer, memory, (present, limit) = super().lost(now), Memory(self), present_of(self, now)
         CALLS["lost"] += 1
-        told = [LIBRARY.coniks_core_lost(of(present), of(limit), memory.kept, memory.count, SIZE(it)) for it in range(len(self.kept) + 1)]
+        told = [
+            LIBRARY.coniks_core_lost(of(present), of(limit), memory.kept, memory.count, SIZE(it))
+            for it in range(len(self.kept) + 1)
+        ]
         assert [*map(bool, told)] == [*(it.entry.epoch in answer["lost"] for it in self.kept), False], (answer, told)
         return answer
 

@@ -36,10 +36,12 @@ def test_example(tmp_path: Path) -> None:
 
 def test_cases_under_sanitizers(tmp_path: Path, say: Say) -> None:
     program = compiled(tmp_path, "client_answers", "-g", "-O1", *sanitizers(tmp_path))
-    client_sides.check_program("C, under sanitizers", [str(program)], 20, 1, say)
+    client_sides.check_program("C, under sanitizers", [str(program)], 20, 1, say, client_sides.CORE)
 
 
 def test_cases_under_valgrind(tmp_path: Path, say: Say) -> None:
     needs("valgrind")
     words = ["valgrind", "-q", "--error-exitcode=9", "--leak-check=full", "--errors-for-leak-kinds=all"]
-    client_sides.check_program("C, under valgrind", [*words, str(compiled(tmp_path, "client_answers", "-O2"))], 10, 1, say)
+    client_sides.check_program(
+        "C, under valgrind", [*words, str(compiled(tmp_path, "client_answers", "-O2"))], 10, 1, say, client_sides.CORE
+    )

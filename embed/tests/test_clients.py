@@ -53,13 +53,14 @@ class Language:
     build: Callable[[Path], Command]
     over: str = "embedded"
     also: Sequence[str] = ()
+    kind: client_sides.Kind = client_sides.BY_HAND
 
 
 LANGUAGES = {
     "Go": Language(["go", "a C compiler", "edwards25519 for Go"], in_go),
     "Rust": Language(["cargo", "a C compiler", "libsodium"], in_rust),
     "JavaScript": Language(["node", "wasm-opt"], in_javascript, "module"),
-    "C": Language(["a C compiler", "libsodium"], in_c, also=["refusing"]),
+    "C": Language(["a C compiler", "libsodium"], in_c, also=["refusing"], kind=client_sides.CORE),
 }
 
 
@@ -82,6 +83,6 @@ def test_client(tmp_path: Path, what: str, request: pytest.FixtureRequest, say: 
     needs(*language.tools)
     request.getfixturevalue(language.over)
     words = language.build(tmp_path)
-    client_sides.check_program(what, words, *numbers(request.config), say)
+    client_sides.check_program(what, words, *numbers(request.config), say, language.kind)
     for more in language.also:
-        client_sides.check_program(f"{what}, {more}", [*words, more], 0, 1, say)
+        client_sides.check_program(f"{what}, {more}", [*words, more], 0, 1, say, language.kind)
