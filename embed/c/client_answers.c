@@ -503,8 +503,10 @@ static void mark(struct answerer *it)
     coniks_client_head head;
     uint32_t status;
     head.epoch = number(word(it, 2));
-    if (!take32(bytes_at(it, 3), &head.link))
-        fail("a link");
+    if (!take32(bytes_at(it, 3), &head.link)) {
+        puts("misuse");
+        return;
+    }
     status = coniks_client_mark(it->client, (size_t)number(word(it, 1)), &head);
     if (status <= CONIKS_CLIENT_DIFFERS)
         puts(COMPARISONS[status]);

@@ -43,5 +43,5 @@ def test_cases_under_valgrind(tmp_path: Path, say: Say) -> None:
     needs("valgrind")
     words = ["valgrind", "-q", "--error-exitcode=9", "--leak-check=full", "--errors-for-leak-kinds=all"]
     client_sides.check_program(
-        "C, under valgrind", [*words, str(compiled(tmp_path, "client_answers", "-O2"))], 10, 1, say, client_sides.CORE
+        "C, under valgrind", [*words, str(compiled(tmp_path, "client_answers", "-O2"))], 10, 2, say, client_sides.CORE
     )
