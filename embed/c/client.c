@@ -230,22 +230,17 @@ uint32_t coniks_client_vouched(coniks_client **client, const coniks_client_setti
     return hand_over(client, *client, status);
 }
 
-/* Feeds an entry. The core is asked again once there is room. */
+/* Feeds an entry, for which there is room, and for the alarm that it may leave. */
 static uint32_t feed(coniks_client *client, struct slice entry, coniks_client_refusal *why)
 {
     const uint32_t is_signed = client_signature_verdict(client, entry.bytes, entry.length);
     uint64_t time = client->clock(client->clock_context);
     coniks_why reason = {0};
-    uint32_t status;
-    for (;;) {
-        status = coniks_core_feed(&client->policy.digest, client->kept, client->room, &client->count, &client->watch,
-                                  client->marks, client->auditors, entry.bytes, entry.length, is_signed, time, &reason);
-        if (status != CONIKS_CORE_E_NO_ROOM)
-            break;
-        status = client_reserve(client, 1, client->alarm_count);
-        if (status)
-            return status;
-    }
+    uint32_t status = client_reserve(client, 1, client->alarm_count);
+    if (status)
+        return status;
+    status = coniks_core_feed(&client->policy.digest, client->kept, client->room, &client->count, &client->watch, client->marks,
+                              client->auditors, entry.bytes, entry.length, is_signed, time, &reason);
     if (status && why)
         client_explain(client, entry.bytes, &reason, why);
     return status;

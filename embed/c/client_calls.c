@@ -414,6 +414,32 @@ static void try_lost(void)
     coniks_client_free(client);
 }
 
+/* Each epoch is lost and dropped as the next one comes: there is room for each alarm. */
+static void try_many_alarms(void)
+{
+    uint8_t entry[CONIKS_ENTRY_BYTES];
+    coniks_client_settings settings;
+    struct told told;
+    coniks_client *client;
+    coniks_client_head head = {0};
+    uint64_t epoch;
+    begin_settings(&settings, &told);
+    settings.signatures.verify = verify;
+    settings.signatures.context = &told;
+    told.result = 1;
+    CHECK(coniks_client_new(&client, &settings) == 0);
+    client->policy.has_end = 1;
+    CHECK(coniks_client_watch(client, NAME("alice"), NULL, 0, NULL) == 0);
+    for (epoch = 1; epoch <= 100; epoch++) {
+        told.now = START + epoch * PERIOD;
+        make(epoch, &head, entry);
+        CHECK(coniks_client_feed(client, entry, sizeof entry, NULL, NULL) == 0);
+        CHECK(coniks_client_latest(client, &head) == 0 && coniks_client_cover(client, &head) == CONIKS_CLIENT_EQUAL);
+        CHECK(coniks_client_count(client) == 1 && coniks_client_alarms(client, NULL, 0) == epoch - 1);
+    }
+    coniks_client_free(client);
+}
+
 static void try_settings(void)
 {
     coniks_client_settings settings;
@@ -558,6 +584,7 @@ int main(void)
     try_misuse();
     try_settings();
     try_lost();
+    try_many_alarms();
     try_texts();
     return failures ? 1 : 0;
 }
