@@ -84,7 +84,7 @@ CHANGES = {
     "embed/python/src/coniks/_watch.py": "the client in Python",
     "embed/go/guard.go": "the package in Go",
     "embed/go/client/watch.go": "cases of the client in Go",
-    "embed/rust/src/client/watch.rs": "cases of the client in Rust",
+    "embed/rust/src/client/memory.rs": "cases of the client in Rust",
     "web/src/watch.js": "cases of the client in JavaScript",
     "web/src/page.js": "the page: results",
     "examples/service/holding.py": "the service: life",

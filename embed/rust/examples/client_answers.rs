@@ -1,6 +1,8 @@
 //! Replies to the requests of embed/tests/client_sides.py, one on each line.
 
-use coniks::client::{Cause, Client, Comparison, Evidence, Found, Keys, Misuse, Policy, Refusal, Settings, Step, Watched};
+use coniks::client::{
+    Alarm, Cause, Client, Comparison, Evidence, Found, Keys, Misuse, Policy, Refusal, Report, Settings, Step, Trust, Watched,
+};
 use coniks::{EvidenceKind, Head};
 use std::collections::BTreeMap;
 use std::io::{stdin, BufRead};
@@ -93,10 +95,27 @@ fn fed(steps: &[Step]) -> String {
     listed("fed", steps.iter().map(|it| format!("{}:{}", it.epoch, seen(it.seen))))
 }
 
-/// The client, and the time of its clock.
+fn alarms(alarms: &[Alarm]) -> String {
+    listed("alarms", alarms.iter().map(|it| format!("{}:{}", it.epoch, seen(Some(it.seen)))))
+}
+
+fn report(it: &Report) -> String {
+    let (name, from, to) = match *it {
+        Report::Changed(epoch) => ("changed", epoch, epoch),
+        Report::Missing(epoch) => ("missing", epoch, epoch),
+        Report::Lost(epoch) => ("lost", epoch, epoch),
+        Report::Unwatched => ("unwatched", 0, 0),
+        Report::Unconfirmed(from, to) => ("unconfirmed", from, to),
+        Report::Good(from, to) => ("good", from, to),
+    };
+    format!("report {name} {from} {to}")
+}
+
+/// The client, the time of its clock, and the trust document that the next client names.
 #[derive(Default)]
 struct Held {
     now: Arc<AtomicU64>,
+    trust: Option<Trust>,
     client: Option<Client>,
 }
 
@@ -109,6 +128,7 @@ impl Held {
         let mut settings = Settings {
             max_age: given(words[1], number).map(Duration::from_secs),
             clock: Box::new(move || Duration::from_secs(now.load(Ordering::Relaxed))),
+            trust: self.trust.take(),
             ..Settings::default()
         };
         if let Some(skew) = given(words[2], number) {
@@ -148,6 +168,12 @@ impl Held {
                 self.now.store(number(words[1]), Ordering::Relaxed);
                 return Ok("set".into());
             }
+            "trust" => {
+                let (digest, auditors, faulty) = (bytes(words[1]), words[2].parse(), words[3].parse());
+                let digest = digest.try_into().map_err(|_| Fault::Misused)?;
+                self.trust = Some(Trust::new(digest, auditors.expect("a number"), faulty.expect("a number"))?);
+                return Ok("set".into());
+            }
             _ => (),
         }
         let client = self.client.as_mut().expect("a client");
@@ -174,6 +200,15 @@ impl Held {
             "cover" => compared(client.cover(&head(words[1], words[2])?)),
             "evidence" => format!("evidence {}", evidence(client.evidence(&bytes(words[1]))?.as_ref())),
             "state" => format!("state {}", hex(&client.state())),
+            "mark" => compared(client.mark(number(words[1]) as usize, &head(words[2], words[3])?)?),
+            "confirmed" => format!("confirmed {}", said(client.confirmed())),
+            "drop" => listed("dropped", client.drop_confirmed().iter().map(u64::to_string)),
+            "alarms" => alarms(&client.alarms()),
+            "note" => {
+                client.note(number(words[1]));
+                alarms(&client.alarms())
+            }
+            "report" => report(&client.report()?),
             other => panic!("no request: {other}"),
         })
     }

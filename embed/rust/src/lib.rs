@@ -3,8 +3,8 @@
 //! It calls the proved C library and decides nothing itself. It verifies no signatures: verify each one and pass the result.
 //! The types ensure the preconditions of `coniks.h`: no pointer is null, and nothing is written while it is read.
 //!
-//! With the feature `client` the module `client` has all steps of a lookup, signatures and VRF proofs among them. It needs `std`
-//! and libsodium.
+//! With the feature `client` the module `client` has all steps of a lookup, signatures and VRF proofs among them, over the calls of
+//! `coniks_core.h`. It needs `std` and libsodium.
 #![no_std]
 #![warn(missing_docs)]
 
@@ -13,6 +13,8 @@ extern crate std;
 
 #[cfg(feature = "client")]
 pub mod client;
+#[cfg(feature = "client")]
+mod client_core;
 #[cfg(feature = "client")]
 mod sodium;
 
@@ -262,12 +264,6 @@ impl Auditor {
         Self(c::State { unused: [0; 7], ..state })
     }
 
-    /// Returns an auditor that has accepted an entry with this body and link.
-    #[cfg(feature = "client")]
-    pub(crate) fn after(body: &Body, link: [u8; 32]) -> Self {
-        Self(c::State { epoch: body.epoch, link, nonce: body.nonce, version: body.version, unused: [0; 7] })
-    }
-
     /// Returns all that the auditor keeps, in this machine's byte order.
     #[must_use]
     pub fn state(&self) -> [u8; STATE_BYTES] {
@@ -392,12 +388,20 @@ pub fn convicts(a: &[u8], b: &[u8]) -> Result<Option<EvidenceKind>, Error> {
         return Ok(None);
     }
     accepted(status)?;
-    Ok(Some(match kind {
-        1 => EvidenceKind::Overlap,
-        2 => EvidenceKind::OtherPolicy,
-        3 => EvidenceKind::Malformed,
-        other => unreachable!("kind {other} of coniks.h"),
-    }))
+    Ok(EvidenceKind::of(kind))
+}
+
+impl EvidenceKind {
+    /// Returns the kind of a number, None of 0.
+    fn of(kind: u32) -> Option<Self> {
+        match kind {
+            0 => None,
+            1 => Some(Self::Overlap),
+            2 => Some(Self::OtherPolicy),
+            3 => Some(Self::Malformed),
+            other => unreachable!("kind {other} of coniks.h"),
+        }
+    }
 }
 
 /// An entry without its signature.

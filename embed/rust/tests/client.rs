@@ -3,11 +3,11 @@
 mod formats;
 
 use coniks::client::{
-    Cause, Client, Comparison, Found, IndexScheme, Keys, Misuse, Policy, PolicyError, SignatureScheme, SigningKey, Step,
-    VrfKey, Watched,
+    Alarm, Cause, Client, Comparison, Found, IndexScheme, Keys, Misuse, Policy, PolicyError, Report, Settings, SignatureScheme,
+    SigningKey, Step, Trust, VrfKey, Watched,
 };
 use coniks::{link, Body, Error, EvidenceKind, Head};
-use formats::{bytes, entries, fed, keys, policy, Time, HISTORY, PERIOD, POLICY, REPLY, START, STATE, WATCH};
+use formats::{bytes, entries, fed, keys, policy, Time, HISTORY, MARKED, PERIOD, POLICY, REPLY, START, STATE, TRUST, WATCH};
 use std::collections::BTreeMap;
 use std::num::{NonZeroU64, NonZeroUsize};
 use std::panic::{catch_unwind, AssertUnwindSafe};
@@ -124,7 +124,7 @@ fn the_reply_of_the_example() {
 #[test]
 fn the_state_of_the_example() {
     let (mut client, time) = (Client::new(keys(), policy(), Time::default().settings()).expect("a client"), Time::default());
-    assert_eq!(client.state().len(), 70);
+    assert_eq!(client.state().len(), 110);
     client = Client::resume(keys(), policy(), &client.state(), time.settings()).expect("its own state");
     client.watch("alice", Some(b"k"), Some(1)).expect("no other name");
     for (epoch, entry) in entries().iter().enumerate() {
@@ -138,12 +138,71 @@ fn the_state_of_the_example() {
     assert_eq!(client.state(), bytes(STATE));
     let mut changed = Client::resume(keys(), policy(), &bytes(STATE), time.settings()).expect("a state");
     changed.expect(Some(b"n"), 5).expect("a change");
-    assert_eq!(changed.state()[37 + 2 * 218..], bytes(WATCH));
+    assert_eq!(changed.state()[37 + 2 * 218 + 40..], bytes(WATCH));
     let again = Client::resume(keys(), policy(), &changed.state(), time.settings()).expect("a state");
     assert_eq!(again.state(), changed.state());
     let resumed = Client::resume(keys(), policy(), &bytes(STATE), time.settings()).expect("a state");
     assert_eq!((resumed.state(), resumed.missing()), (bytes(STATE), vec![1]));
     assert!(resumed.entries().map(|it| it.to_vec()).eq(entries()));
+}
+
+/// A client with the state of the example that names auditors.
+fn marked(auditors: u32) -> Client {
+    let digest = bytes(TRUST).try_into().expect("a digest");
+    let trust = Some(Trust::new(digest, auditors, 0).expect("a quorum"));
+    let settings = Settings { trust, ..Time::default().settings() };
+    Client::resume(keys(), policy(), &bytes(MARKED), settings).expect("a state")
+}
+
+#[test]
+fn auditors_and_alarms_of_the_example() {
+    let mut client = marked(2);
+    assert_eq!((client.state(), client.confirmed()), (bytes(MARKED), Some(2)));
+    assert_eq!((client.is_relied(2), client.is_relied(1)), (Ok(true), Err(Cause::UnknownEpoch.into())));
+    assert_eq!(client.alarms(), [Alarm { epoch: 1, seen: Watched::Changed }]);
+    client.note(0);
+    assert_eq!(client.report(), Ok(Report::Changed(1)));
+    client.note(1);
+    assert_eq!((client.alarms(), client.report()), (vec![], Ok(Report::Changed(2))));
+    let head = client.head().expect("an entry");
+    assert_eq!((client.mark(1, &head), client.mark(2, &head)), (Ok(Comparison::Equal), Err(Misuse::NoAuditor)));
+    let other = Head { link: [0; 32], ..head };
+    assert_eq!(client.mark(0, &other), Ok(Comparison::Differs));
+    assert_eq!(client.drop_confirmed(), [0; 0]);
+    let others = marked(3);
+    assert_eq!((others.confirmed(), others.is_relied(2)), (None, Ok(false)), "the marks are of other auditors");
+    assert_eq!(Trust::new([0; 32], 3, 1), Err(Misuse::TooManyFaulty));
+}
+
+#[test]
+fn a_quorum_drops_what_it_confirms() {
+    let (digest, time) = ([7; 32], Time::default());
+    let settings = Settings { trust: Some(Trust::new(digest, 4, 1).expect("a quorum")), ..time.settings() };
+    let mut client = Client::new(keys(), policy(), settings).expect("a client");
+    assert_eq!(client.report(), Err(Misuse::NotWatching));
+    client.watch("alice", Some(b"k"), Some(1)).expect("no other name");
+    client.feed(entries()).expect("they follow");
+    client.history("alice", &bytes(HISTORY)).expect("a history");
+    let head = client.head().expect("an entry");
+    for auditor in 0..3 {
+        assert_eq!((client.confirmed(), client.report()), (None, Ok(Report::Unconfirmed(1, 2))));
+        assert_eq!(client.mark(auditor, &head), Ok(Comparison::Equal));
+    }
+    assert_eq!((client.confirmed(), client.report()), (Some(2), Ok(Report::Good(1, 2))));
+    assert_eq!((client.drop_confirmed(), client.report(), client.alarms()), (vec![1], Ok(Report::Good(2, 2)), vec![]));
+    assert_eq!((client.drop_confirmed(), client.entries().len()), (vec![], 1));
+}
+
+/// The core is given verdicts that one module makes.
+#[test]
+fn verdicts_are_made_in_one_place() {
+    let folder = concat!(env!("CARGO_MANIFEST_DIR"), "/src/client");
+    let is_making = |text: &str| ["is_signed(", ".index(", "Verdicts {"].iter().any(|it| text.contains(it));
+    let files = std::fs::read_dir(folder).expect("a folder").map(|it| it.expect("a file").path());
+    let making = files.filter(|it| is_making(&std::fs::read_to_string(it).expect("a text")));
+    let mut names: Vec<_> = making.map(|it| it.file_name().expect("a name").to_os_string()).collect();
+    names.sort();
+    assert_eq!(names, ["schemes.rs", "verdicts.rs"]);
 }
 
 #[test]
@@ -159,14 +218,14 @@ fn the_history_of_the_example() {
 }
 
 #[test]
-fn ages_are_compared_to_the_nanosecond() {
+fn ages_are_compared_in_whole_seconds() {
     let (mut client, time) = fed();
     let mut cause_at = |milliseconds| {
         time.set(milliseconds);
         client.lookup("alice", &bytes(REPLY), None).err().map(|it| it.cause)
     };
     let (begins, two_periods) = (1000 * PERIOD, 2 * 1000 * PERIOD);
-    assert_eq!((cause_at(begins + two_periods), cause_at(begins + two_periods + 1)), (None, Some(Cause::Stale)));
+    assert_eq!((cause_at(begins + two_periods + 999), cause_at(begins + two_periods + 1000)), (None, Some(Cause::Stale)));
     assert_eq!((cause_at(begins - 300_000), cause_at(begins - 300_001)), (None, Some(Cause::Future)));
     time.set(begins - 1);
     assert_eq!(client.lookup("alice", &bytes(REPLY), None).map(|it| it.age), Ok(Some(-1)));
@@ -179,7 +238,7 @@ fn limits_are_the_callers() {
     for (max_age, skew, wanted) in [(59, 0, Some(Cause::Stale)), (60, 0, None), (u64::MAX, u64::MAX, None)] {
         let (client, time) = fed();
         let (max_age, skew) = (Some(Duration::from_secs(max_age)), Duration::from_secs(skew));
-        let settings = coniks::client::Settings { max_age, skew, ..time.settings() };
+        let settings = Settings { max_age, skew, ..time.settings() };
         let mut client = Client::resume(keys(), policy(), &client.state(), settings).expect("a state");
         assert_eq!(client.lookup("alice", &bytes(REPLY), None).err().map(|it| it.cause), wanted);
         time.set(0);
@@ -189,18 +248,17 @@ fn limits_are_the_callers() {
 }
 
 #[test]
-fn a_limit_has_parts_of_a_second() {
+fn parts_of_a_second_are_left_out_of_a_limit() {
     let (client, time) = fed();
     let (max_age, skew) = (Some(Duration::from_millis(60_250)), Duration::from_millis(300_250));
-    let settings = coniks::client::Settings { max_age, skew, ..time.settings() };
+    let settings = Settings { max_age, skew, ..time.settings() };
     let mut client = Client::resume(keys(), policy(), &client.state(), settings).expect("a state");
     let begins = 1000 * PERIOD;
     for (milliseconds, wanted) in [
-        (begins - 300_251, Some(Cause::Future)),
-        (begins - 300_250, None),
-        (begins - 300_200, None),
-        (begins + 60_250, None),
-        (begins + 60_251, Some(Cause::Stale)),
+        (begins - 300_001, Some(Cause::Future)),
+        (begins - 300_000, None),
+        (begins + 60_999, None),
+        (begins + 61_000, Some(Cause::Stale)),
     ] {
         time.set(milliseconds);
         assert_eq!(client.lookup("alice", &bytes(REPLY), None).err().map(|it| it.cause), wanted, "{milliseconds}");
@@ -312,7 +370,7 @@ fn entry_of(epoch: u64, previous_epoch: u64, previous_link: [u8; 32]) -> Vec<u8>
 fn credulous(document: &str, now: u64) -> Client {
     let scheme = Scheme::default();
     scheme.result.store(true, Ordering::Relaxed);
-    let settings = coniks::client::Settings { clock: Box::new(move || Duration::from_secs(now)), ..Default::default() };
+    let settings = Settings { clock: Box::new(move || Duration::from_secs(now)), ..Default::default() };
     Client::new(with_schemes(&scheme, &scheme), Policy::read(document.as_bytes()).expect("a policy"), settings)
         .expect("a client")
 }
@@ -396,7 +454,7 @@ fn numbers_of_lost_epochs_are_exact() {
             let scheme = Scheme::default();
             scheme.result.store(true, Ordering::Relaxed);
             let (client, _) = watching(&changes, false, &epochs);
-            let settings = coniks::client::Settings { clock: Box::new(|| Duration::MAX), ..Default::default() };
+            let settings = Settings { clock: Box::new(|| Duration::MAX), ..Default::default() };
             let document = changes.iter().fold(POLICY.to_string(), |text, (before, after)| text.replace(before, after));
             let policy = Policy::read(document.as_bytes()).expect("a policy");
             let late = Client::resume(with_schemes(&scheme, &scheme), policy, &client.state(), settings).expect("a client");
@@ -508,7 +566,7 @@ fn two_changes_in_a_row_stay_the_same() {
     for (oldest, changes) in [(3, 2), (4, 1), (6, 0)] {
         assert_eq!(alice.cover(oldest), 8 - oldest);
         // Those of a watch without a change, and 21 for each change to a key of one byte.
-        assert_eq!(alice.client.state().len(), 70 + 218 * (8 - oldest) + 23 + 21 * changes);
+        assert_eq!(alice.client.state().len(), 110 + 218 * (8 - oldest) + 23 + 21 * changes);
         (oldest..8).for_each(|epoch| alice.sees(epoch, Watched::Same));
     }
 }
@@ -614,7 +672,7 @@ fn keys_that_are_not_those_of_the_policy() {
 
 #[test]
 fn causes_have_numbers_and_texts() {
-    assert_eq!(Cause::ALL.len(), 57);
+    assert_eq!(Cause::ALL.len(), 58);
     for cause in Cause::ALL {
         let text = cause.to_string();
         assert!(!text.is_empty() && !text.ends_with('.') && text.len() < 160, "{cause:?}");

@@ -133,7 +133,7 @@ fn a_reply_that_is_changed() {
 fn a_state_that_is_cut_or_changed() {
     let state = bytes(STATE);
     for size in 0..state.len() {
-        let wanted = if size < 70 { Cause::StateLength } else { Cause::StateDamaged };
+        let wanted = if size < 110 { Cause::StateLength } else { Cause::StateDamaged };
         assert_eq!(resumed(&state[..size]).err(), Some(wanted), "{size} bytes");
     }
     for bit in 0..8 * state.len() {
@@ -148,7 +148,7 @@ fn a_state_that_is_cut_or_changed() {
 #[test]
 fn a_state_with_lengths_that_nothing_follows() {
     for (state, digest) in formats::STATES {
-        let state = [bytes("02"), bytes(formats::DIGEST), bytes(state), bytes(digest)].concat();
+        let state = [bytes("03"), bytes(formats::DIGEST), bytes(state), bytes(digest)].concat();
         assert_eq!(resumed(&state).err(), Some(Cause::StateForm), "{state:x?}");
     }
 }

@@ -35,6 +35,11 @@ macro_rules! causes {
                 }
             }
 
+            /// Returns the cause of a status, None of 0. No other status is returned than those of the causes.
+            pub(super) fn of(status: u32) -> Option<Self> {
+                Self::ALL.iter().copied().find(|it| *it as u32 == status)
+            }
+
             /// What is refused, and what to do about it; no text for the library's errors, which have their own.
             fn texts(self) -> [&'static str; 2] {
                 match self {
@@ -105,10 +110,10 @@ causes! {
     Future = 86: "the latest epoch has not begun by the policy's clock: see whether the clock is right, or alarm";
     /// The VRF proof isn't one of this name.
     VrfProof = 87: "the VRF proof is not one of this name: ", REPLY;
-    /// The state has fewer than 70 bytes.
-    StateLength = 96: "a state has at least 70 bytes: ", STATE;
-    /// The state's first byte isn't 2.
-    StateVersion = 97: "the state has another version than 2: take the package that wrote it, or start anew with an auditor's head";
+    /// The state has fewer than 110 bytes.
+    StateLength = 96: "a state has at least 110 bytes: ", STATE;
+    /// The state's first byte isn't 3.
+    StateVersion = 97: "the state has another version than 3: take the package that wrote it, or start anew with an auditor's head";
     /// The state's digest isn't that of the bytes before it.
     StateDamaged = 98: "the state was changed: ", STATE;
     /// The state's policy digest isn't that of the client.
@@ -127,6 +132,8 @@ causes! {
     VrfKey = 113: "the VRF's key is no point of prime order: take the one of the policy document";
     /// The keys aren't those of the policy document.
     PolicyKeys = 114: "the keys are not those of the policy: take both from its document";
+    /// There are more than 64 heads of auditors, which the library for C does not take.
+    ManyHeads = 142: "at most 64 auditors vouch for an entry";
 }
 
 impl fmt::Display for Cause {

@@ -19,51 +19,56 @@
 //! what anyone can send is never an alarm. What convicts the provider is the refusal's `evidence`: publish it.
 //!
 //! The owner of a name calls [`Client::watch`], and then each epoch must show the key. [`Client::missing`] has the epochs of which
-//! no reply was accepted, and [`Client::lost`] those of them that can no longer be verified. Call [`Client::expect`] before you change the key. Store [`Client::state`] after each call that
-//! changes it, and go on with [`Client::resume`].
+//! no reply was accepted, and [`Client::lost`] those of them that can no longer be verified. Call [`Client::expect`] before you change
+//! the key, and [`Client::report`] for what to tell the owner. Store [`Client::state`] after each call that changes it, and go on with
+//! [`Client::resume`].
 //!
 //! If the policy has a clock, the latest epoch must have begun at most `max_age` ago, by default two periods. It must begin at most
 //! `skew` from now. Only a lookup of an epoch by its number may be older: ask for a number of your own, never for that of the
-//! reply. Without a clock, [`Found::first_seen`] says since when this client has had the entry.
+//! reply. Without a clock, [`Found::first_seen`] says since when this client has had the entry. Times are compared in whole seconds:
+//! what is beyond them of the clock's time, of `max_age` and of `skew` is left out.
 //!
-//! Each accepted entry is kept (about 600 bytes), until [`Client::cover`] is called with an auditor's head. Compare heads with
-//! auditors and other clients by [`Client::compare`] and [`Client::evidence`].
+//! Each accepted entry is kept, in 218 bytes, until [`Client::drop_confirmed`] is called, or [`Client::cover`] with an auditor's head.
+//! Compare heads with auditors and other clients by [`Client::compare`] and [`Client::evidence`]. With [`Settings::trust`] the client
+//! notes the heads of its auditors by [`Client::mark`], and [`Client::is_relied`] says whether a quorum confirms an epoch.
 //!
 //! A client can't be copied: one of both would miss what the other is fed. No call panics, whatever its input is, unless memory is
-//! exhausted. Signatures and VRF proofs are verified by libsodium, or by a [`SignatureScheme`] and an [`IndexScheme`] of the caller.
+//! exhausted. What is accepted is decided by the proved core (`coniks_core.h`). Signatures and VRF proofs are verified by libsodium, or
+//! by a [`SignatureScheme`] and an [`IndexScheme`] of the caller.
 #![forbid(unsafe_code)]
 
 mod cause;
 mod ecvrf;
-mod messages;
+mod memory;
 mod policy;
 mod schemes;
-mod watch;
+mod verdicts;
+mod watched;
 
 pub use cause::{Cause, Evidence, Refusal};
 pub use policy::{Policy, PolicyError};
 pub use schemes::{Ecvrf, Ed25519, IndexScheme, Keys, SignatureScheme, SigningKey, VrfKey};
-pub use watch::{Misuse, Watched};
+pub use watched::{Alarm, Misuse, Report, Trust, Watched};
 
-use crate::sodium::sha256;
-use crate::{check, convicts, Auditor, Body, Error, Head, BODY_BYTES, ENTRY_BYTES};
+use crate::client_core::{self as core_calls, Text, Why, NOT_CONFIRMED, NOWHERE};
+use crate::{convicts, link, Body, Error, EvidenceKind, Head, ENTRY_BYTES, NO_EVIDENCE};
 use core::fmt;
 use core::num::NonZeroUsize;
-use core::ops::Bound::{Excluded, Unbounded};
 use core::time::Duration;
-use messages::{catch_up_entries, History, Reader, Reply};
+use memory::{raw, Memory, Watching, NO_EPOCH};
 use policy::EpochClock;
 use std::boxed::Box;
 use std::collections::BTreeMap;
 use std::string::String;
 use std::sync::Arc;
 use std::time::{SystemTime, UNIX_EPOCH};
+use std::vec;
 use std::vec::Vec;
-use watch::{Chain, Kept, Watch};
+use verdicts::part;
+use watched::{misuse_of, seen_of};
 
-/// The bytes of a state without epochs and watched name.
-const LEAST_STATE: usize = 70;
-const STATE_VERSION: u8 = 2;
+/// What the core says of a reply that shows a key.
+const SHOWS_KEY: u32 = 1;
 
 /// Returns the time since the Unix epoch.
 pub type Clock = Box<dyn Fn() -> Duration + Send + Sync>;
@@ -76,18 +81,21 @@ pub struct Settings {
     pub skew: Duration,
     /// The machine's clock by default. A time before 1970 is taken for 1970.
     pub clock: Clock,
+    /// The auditors of which a quorum confirms epochs; none by default.
+    pub trust: Option<Trust>,
 }
 
 impl Default for Settings {
     fn default() -> Self {
         let clock = || SystemTime::now().duration_since(UNIX_EPOCH).unwrap_or_default();
-        Self { max_age: None, skew: Duration::from_secs(300), clock: Box::new(clock) }
+        Self { max_age: None, skew: Duration::from_secs(300), clock: Box::new(clock), trust: None }
     }
 }
 
 impl fmt::Debug for Settings {
     fn fmt(&self, f: &mut fmt::Formatter<'_>) -> fmt::Result {
-        f.debug_struct("Settings").field("max_age", &self.max_age).field("skew", &self.skew).finish_non_exhaustive()
+        let mut it = f.debug_struct("Settings");
+        it.field("max_age", &self.max_age).field("skew", &self.skew).field("trust", &self.trust).finish_non_exhaustive()
     }
 }
 
@@ -117,7 +125,7 @@ impl From<[u8; 32]> for PolicyOrDigest {
 pub struct Step {
     /// Its epoch.
     pub epoch: u64,
-    /// [`Watched::Missing`] if the epoch must show the watched name, until a reply does.
+    /// [`Watched::Missing`] if the epoch must show the watched name, until a reply does. One that is signed again has what was seen.
     pub seen: Option<Watched>,
 }
 
@@ -150,24 +158,34 @@ pub enum Comparison {
     Differs,
 }
 
+impl Comparison {
+    fn of(number: u32) -> Self {
+        match number {
+            1 => Self::Equal,
+            2 => Self::Unknown,
+            _ => Self::Differs,
+        }
+    }
+}
+
 /// A client of one directory.
 pub struct Client {
     keys: Keys,
     digest: [u8; 32],
     epochs: Option<EpochClock>,
-    /// For how many seconds proofs are kept, None for ever.
-    proofs_kept: Option<u64>,
-    max_age: Duration,
-    skew: Duration,
+    promise: core_calls::Promise,
+    /// In whole seconds.
+    max_age: u64,
+    skew: u64,
     clock: Clock,
-    /// The only record of the chain, so that an entry is kept as a whole or not at all.
-    kept: Chain,
-    watch: Option<Watch>,
+    trust: Option<Trust>,
+    memory: Memory,
 }
 
 impl fmt::Debug for Client {
     fn fmt(&self, f: &mut fmt::Formatter<'_>) -> fmt::Result {
-        f.debug_struct("Client").field("head", &self.head()).field("entries", &self.kept.len()).finish_non_exhaustive()
+        let kept = self.memory.kept.get().len();
+        f.debug_struct("Client").field("head", &self.head()).field("entries", &kept).finish_non_exhaustive()
     }
 }
 
@@ -186,13 +204,16 @@ impl Client {
             }
             PolicyOrDigest::Digest(it) => (it, None, None),
         };
-        let two_periods = || Duration::from_secs(epochs.map_or(0, |it| it.period.get().saturating_mul(2)));
-        let Settings { max_age, skew, clock } = settings;
-        let max_age = max_age.unwrap_or_else(two_periods);
-        Ok(Self { keys, digest, epochs, proofs_kept, max_age, skew, clock, kept: Chain::new(), watch: None })
+        let Settings { max_age, skew, clock, trust } = settings;
+        let two_periods = || epochs.map_or(0, |it| it.period.get().saturating_mul(2));
+        let max_age = max_age.map_or_else(two_periods, |it| it.as_secs());
+        let promise = core_calls::Promise { is_limited: proofs_kept.is_some().into(), seconds: proofs_kept.unwrap_or(0) };
+        let memory = Memory::new(trust.map_or(0, |it| it.auditors));
+        Ok(Self { keys, digest, epochs, promise, max_age, skew: skew.as_secs(), clock, trust, memory })
     }
 
-    /// Returns a client that goes on from the state of another one.
+    /// Returns a client that goes on from the state of another one. Its marks are those of the state if that has the same trust document
+    /// and the same number of auditors, else 0.
     ///
     /// # Errors
     ///
@@ -205,11 +226,13 @@ impl Client {
 
     /// Returns a client whose chain begins with an entry that at least so many auditors have.
     ///
-    /// `heads` has the head of each auditor for that entry's epoch, by the auditor's name. Get each from the auditor itself.
+    /// `heads` has the head of each auditor for that entry's epoch, by the auditor's name. Get each from the auditor itself. With
+    /// [`Settings::trust`], call [`Client::mark`] with each of them afterwards.
     ///
     /// # Errors
     ///
-    /// [`Cause::PolicyKeys`], those of the entry alone, [`Cause::AuditorsDiffer`] and [`Cause::NotVouched`], in this order.
+    /// [`Cause::PolicyKeys`], [`Cause::ManyHeads`], those of the entry alone, [`Cause::AuditorsDiffer`] and [`Cause::NotVouched`], in
+    /// this order.
     pub fn vouched(
         keys: Keys,
         policy: impl Into<PolicyOrDigest>,
@@ -219,22 +242,22 @@ impl Client {
         settings: Settings,
     ) -> Result<Self, Refusal> {
         let mut client = Self::new(keys, policy, settings)?;
-        let kept = Kept::of(client.verified(entry)?, client.now().as_secs(), None)?;
-        let links: Vec<&[u8; 32]> = heads.values().filter(|it| it.epoch == kept.body.epoch).map(|it| &it.link).collect();
-        if links.iter().any(|it| **it != kept.link) {
-            return Err(Cause::AuditorsDiffer.into());
-        }
-        if links.len() < least.get() {
-            return Err(Cause::NotVouched.into());
-        }
-        client.kept.insert(kept.body.epoch, kept);
+        let row = |it: &Head| core_calls::Head { is_there: 1, epoch: it.epoch, link: it.link };
+        let rows: Vec<core_calls::Head> = heads.values().map(row).collect();
+        let (verdict, now, mut why) = (verdicts::of_entry(&client.keys, entry), client.seconds(), Why::default());
+        client.memory.kept.reserve(1, NO_EPOCH);
+        let (kept, count) = client.memory.kept.all();
+        let watch = core_calls::Watch::default();
+        let status = core_calls::start(&client.digest, kept, count, &watch, &rows, least.get(), entry, verdict, now, &mut why);
+        client.accepted(status, &why, entry)?;
         Ok(client)
     }
 }
 
 /// The chain.
 impl Client {
-    /// Accepts entries that continue the chain.
+    /// Accepts entries that continue the chain, or the latest one signed again. After [`Cause::PreviousLink`] get the latest entry once
+    /// more, and feed it before the next one: it may have been signed again.
     ///
     /// # Errors
     ///
@@ -249,108 +272,62 @@ impl Client {
     ///
     /// [`Cause::CatchUpLength`], and then nothing is kept; else as [`Client::feed`].
     pub fn feed_catch_up(&mut self, catch_up: &[u8]) -> Result<Vec<Step>, Refusal> {
-        self.feed(catch_up_entries(catch_up)?)
+        let mut count = 0;
+        refused(core_calls::catch_up(catch_up, &mut count))?;
+        self.feed(catch_up.chunks_exact(ENTRY_BYTES).take(count))
     }
 
     fn feed_one(&mut self, entry: &[u8]) -> Result<Step, Refusal> {
-        let (entry, now) = (self.verified(entry)?, self.now());
-        if let Err(error) = follow(self.latest(), entry) {
-            let evidence = self.convicting(entry)?;
-            let cause = if evidence.is_some() { Cause::Equivocation } else { error.into() };
-            return Err(Refusal::with(cause, Some(error), evidence));
-        }
-        let mut kept = Kept::of(entry, now.as_secs(), None)?;
-        let epoch = kept.body.epoch;
-        let seen = self.watch.as_ref().and_then(|it| it.first(epoch));
-        kept.seen = seen;
-        self.kept.insert(epoch, kept);
-        Ok(Step { epoch, seen })
+        let (verdict, now, mut why) = (verdicts::of_entry(&self.keys, entry), self.seconds(), Why::default());
+        let Memory { kept, watching, marks, .. } = &mut self.memory;
+        kept.reserve(1, NO_EPOCH);
+        let ((memory, count), (watch, _)) = (kept.all(), raw(watching.as_ref()));
+        let status = core_calls::feed(&self.digest, memory, count, &watch, marks, entry, verdict, now, &mut why);
+        self.accepted(status, &why, entry)?;
+        let latest = self.memory.kept.get().last().ok_or(Cause::UnknownEpoch)?;
+        Ok(Step { epoch: epoch_of(latest), seen: seen_of(latest.seen.into()) })
     }
 
-    fn latest(&self) -> Option<&Kept> {
-        self.kept.last_key_value().map(|(_, it)| it)
-    }
-
-    fn latest_epoch(&self) -> Option<u64> {
-        self.latest().map(|it| it.body.epoch)
-    }
-
-    /// Returns an entry whose signature is valid.
-    fn signed<'a>(&self, entry: &'a [u8]) -> Result<&'a [u8; ENTRY_BYTES], Refusal> {
-        let entry: &[u8; ENTRY_BYTES] = entry.try_into().map_err(|_| Cause::EntryLength)?;
-        let (body, signature) = parts(entry).ok_or(Cause::Signature)?;
-        if self.keys.is_signed(body, signature) {
-            Ok(entry)
-        } else {
-            Err(Cause::Signature.into())
-        }
-    }
-
-    /// Returns an entry that is signed, of this directory, and one that some chain has.
-    fn verified<'a>(&self, entry: &'a [u8]) -> Result<&'a [u8; ENTRY_BYTES], Refusal> {
-        let entry = self.signed(entry)?;
-        if Body::of_entry(entry)?.policy != self.digest {
-            return Err(Refusal::with(Cause::OtherPolicy, None, self.convicting(entry)?));
-        }
-        if convicts(entry, entry)?.is_some() {
-            return Err(Refusal::with(Cause::Malformed, None, self.convicting(entry)?));
-        }
-        Ok(entry)
-    }
-
-    /// Returns the evidence of a signed entry and the first kept one that convicts with it, or of the signed entry alone.
-    fn convicting(&self, entry: &[u8; ENTRY_BYTES]) -> Result<Option<Evidence>, Error> {
-        let body = Body::of_entry(entry)?;
-        // Another policy and a wrong form convict with each entry, so with the first; bodies overlap with few.
-        let first = self.kept.values().take(1);
-        let later = self.kept.range((Excluded(body.previous_epoch), Unbounded)).map(|(_, it)| it);
-        let overlapping = later.take_while(|it| it.body.previous_epoch < body.epoch);
-        for mine in first.chain(overlapping).map(|it| &it.entry).chain([entry]) {
-            if let Some(kind) = convicts(mine, entry)? {
-                return Ok(Some(Evidence { mine: *mine, other: *entry, kind }));
+    /// Returns the refusal of a status, with what convicts together with an entry.
+    fn accepted(&self, status: u32, why: &Why, entry: &[u8]) -> Result<(), Refusal> {
+        match Cause::of(status) {
+            None => Ok(()),
+            Some(cause) => {
+                Err(Refusal::with(cause, (why.status != 0).then(|| Error::of(why.status)), self.evidence_of(why, entry)))
             }
         }
-        Ok(None)
+    }
+
+    fn evidence_of(&self, why: &Why, entry: &[u8]) -> Option<Evidence> {
+        let (other, kind) = (entry.try_into().ok()?, EvidenceKind::of(why.kind)?);
+        let mine = if why.mine == NOWHERE { other } else { self.memory.kept.get().get(why.mine)?.entry };
+        Some(Evidence { mine, other, kind })
     }
 
     /// Returns the entries that are kept, in the order of the chain.
     pub fn entries(&self) -> impl ExactSizeIterator<Item = &[u8; ENTRY_BYTES]> + '_ {
-        self.kept.values().map(|it| &it.entry)
+        self.memory.kept.get().iter().map(|it| &it.entry)
     }
 
     /// Returns the head of the latest entry, None before the first.
     #[must_use]
     pub fn head(&self) -> Option<Head> {
-        self.latest().map(|it| Head { epoch: it.body.epoch, link: it.link })
+        let latest = self.memory.kept.get().last()?;
+        Some(Head { epoch: epoch_of(latest), link: link(&latest.entry).ok()? })
     }
 
     /// Returns whether a head is one of the chain, as far as its entries are kept.
     pub fn compare(&self, head: &Head) -> Comparison {
-        match self.kept.get(&head.epoch) {
-            Some(it) if it.link == head.link => Comparison::Equal,
-            Some(_) => Comparison::Differs,
-            None => {
-                let is_covered = self.kept.values().any(|it| it.body.previous_epoch < head.epoch && head.epoch < it.body.epoch);
-                if is_covered {
-                    Comparison::Differs
-                } else {
-                    Comparison::Unknown
-                }
-            }
-        }
+        Comparison::of(core_calls::compare(self.memory.kept.get(), head.epoch, &head.link))
     }
 
-    /// Drops the entries before that of an auditor's head, if it is one of this chain: the auditor's chain has them. Epochs that
-    /// are missing stay, with what follows them.
+    /// Drops the entries before that of an auditor's head, if it is one of this chain: the auditor's chain has them. Epochs that are
+    /// missing and not lost stay, with what follows them. Each dropped watched epoch that was not the same leaves an alarm. With
+    /// [`Settings::trust`], call [`Client::mark`] and [`Client::drop_confirmed`] instead.
     pub fn cover(&mut self, head: &Head) -> Comparison {
         let found = self.compare(head);
         if found == Comparison::Equal {
-            let missing = self.kept.values().find(|it| it.seen == Some(Watched::Missing));
-            let oldest = missing.map_or(head.epoch, |it| head.epoch.min(it.body.epoch));
-            self.kept = self.kept.split_off(&oldest);
-            if let Some(watch) = &mut self.watch {
-                watch.settle(oldest);
-            }
+            self.drop_until(Some((&[head.epoch], 1)));
         }
         found
     }
@@ -361,7 +338,82 @@ impl Client {
     ///
     /// [`Cause::EntryLength`], and [`Cause::Signature`] if the entry is not signed.
     pub fn evidence(&self, other_entry: &[u8]) -> Result<Option<Evidence>, Refusal> {
-        Ok(self.convicting(self.signed(other_entry)?)?)
+        let (verdict, mut why) = (verdicts::of_entry(&self.keys, other_entry), Why::default());
+        match core_calls::evidence(self.memory.kept.get(), other_entry, verdict, &mut why) {
+            NO_EVIDENCE => {
+                let (other, kind) = (other_entry.try_into().ok(), convicts(other_entry, other_entry)?);
+                Ok(other.zip(kind).map(|(other, kind)| Evidence { mine: other, other, kind }))
+            }
+            status => {
+                refused(status)?;
+                Ok(self.evidence_of(&why, other_entry))
+            }
+        }
+    }
+}
+
+/// The auditors.
+impl Client {
+    /// Compares a head that an auditor cosigned, and remembers its epoch if they are equal. `auditor` is its place in the trust document,
+    /// from 0 on. Verify the cosignature first.
+    ///
+    /// # Errors
+    ///
+    /// [`Misuse::NoAuditor`] if the trust document has no such auditor.
+    pub fn mark(&mut self, auditor: usize, head: &Head) -> Result<Comparison, Misuse> {
+        let Memory { kept, marks, .. } = &mut self.memory;
+        match core_calls::mark(kept.get(), marks, auditor, head.epoch, &head.link) {
+            found @ 1..=3 => Ok(Comparison::of(found)),
+            _ => Err(Misuse::NoAuditor),
+        }
+    }
+
+    /// Returns the latest epoch that a quorum of the auditors confirms, None if there is none.
+    #[must_use]
+    pub fn confirmed(&self) -> Option<u64> {
+        let mut epoch = 0;
+        let status = core_calls::confirmed(&self.memory.marks, self.quorum(), &mut epoch);
+        (status == 0).then_some(epoch)
+    }
+
+    /// Returns whether a quorum of the auditors confirms a kept epoch, for example that of [`Found`].
+    ///
+    /// # Errors
+    ///
+    /// [`Cause::UnknownEpoch`] if the epoch is not kept.
+    pub fn is_relied(&self, epoch: u64) -> Result<bool, Refusal> {
+        let kept = self.memory.kept.get();
+        let place = kept.binary_search_by_key(&epoch, epoch_of).unwrap_or(NOWHERE);
+        match core_calls::relied(kept, place, &self.memory.marks, self.quorum()) {
+            NOT_CONFIRMED => Ok(false),
+            status => refused(status).map(|()| true),
+        }
+    }
+
+    /// Drops the first epochs: those before the confirmed one, and before the first missing one that is not lost. Returns them. Each
+    /// watched one that was not seen as the same leaves an alarm. No reply for a dropped epoch is accepted: ask for missing ones first.
+    pub fn drop_confirmed(&mut self) -> Vec<u64> {
+        self.drop_until(None)
+    }
+
+    /// Drops epochs by other marks and another quorum than the client's, if they are given.
+    fn drop_until(&mut self, given: Option<(&[u64], usize)>) -> Vec<u64> {
+        let (present, promise, own_quorum) = (self.present(self.now()), self.promise, self.quorum());
+        let epochs: Vec<u64> = self.memory.kept.get().iter().map(epoch_of).collect();
+        self.memory.alarms.reserve(epochs.len(), core_calls::Alarm::default());
+        let (watching, mut covered) = (self.memory.watching.take(), core_calls::Covered::default());
+        let (watch, changes) = raw(watching.as_ref());
+        let count = changes.len();
+        let (status, settled) = self.memory.written((watch, changes), count, |it, own_marks| {
+            let (marks, quorum) = given.unwrap_or((own_marks, own_quorum));
+            core_calls::cover(&present, &promise, marks, quorum, it, &mut covered)
+        });
+        self.memory.watching = if status == 0 { settled } else { watching };
+        epochs.into_iter().take(covered.epochs).collect()
+    }
+
+    fn quorum(&self) -> usize {
+        self.trust.map_or(0, |it| it.quorum)
     }
 }
 
@@ -373,15 +425,23 @@ impl Client {
     ///
     /// The first cause in the order of `docs/FORMATS.md`, "A client's lookup".
     pub fn lookup(&mut self, name: impl AsRef<[u8]>, reply: &[u8], epoch: Option<u64>) -> Result<Found, Refusal> {
-        let (name, reply, now) = (name.as_ref(), Reply::read(reply)?, self.now());
-        let kept = self.entry_of(reply.entry, epoch)?;
-        if epoch.is_none() {
-            self.check_age(kept, now)?;
-        }
-        let index = self.keys.index(name, reply.vrf).ok_or(Cause::VrfProof)?;
-        let key = check(&kept.body.nonce, &kept.body.root, &index, name, reply.proof)?.map(Arc::from);
-        let epoch = kept.body.epoch;
-        Ok(self.found(name, epoch, key, now)?)
+        let (name, mut needs) = (name.as_ref(), core_calls::Needs::default());
+        refused(core_calls::reply_needs(self.memory.kept.get(), reply, &mut needs))?;
+        let (now, mut shown, mut why) = (self.now(), core_calls::Found::default(), Why::default());
+        let verdicts = verdicts::of_reply(&self.keys, name, reply, &needs);
+        let asking = core_calls::Asking {
+            name: Text::of(name),
+            reply: Text::of(reply),
+            is_asked: epoch.is_some().into(),
+            epoch: epoch.unwrap_or(0),
+        };
+        let present = self.present(now);
+        let status = self.memory.marked(|kept, watch, changes| {
+            core_calls::lookup(&self.digest, &present, kept, watch, changes, &asking, &verdicts, &mut shown, &mut why)
+        });
+        self.accepted(status, &why, part(reply, needs.entry_start, ENTRY_BYTES))?;
+        let key = (shown.shows == SHOWS_KEY).then(|| Arc::from(part(reply, shown.key_start, shown.key_length)));
+        Ok(self.found(shown.place, key, shown.seen, now)?)
     }
 
     /// Returns what a history shows of a name, one for each of its epochs.
@@ -390,83 +450,61 @@ impl Client {
     ///
     /// The first cause in the order of `docs/FORMATS.md`: of the bytes, of the VRF proof, of the steps. Nothing is kept then.
     pub fn history(&mut self, name: impl AsRef<[u8]>, history: &[u8]) -> Result<Vec<Found>, Refusal> {
-        let (name, history, now) = (name.as_ref(), History::read(history)?, self.now());
-        let index = self.keys.index(name, history.vrf).ok_or(Cause::VrfProof)?;
-        let mut keys: Vec<(u64, Option<Arc<[u8]>>)> = Vec::new();
-        let mut steps = history.steps();
-        while let Some(step) = steps.next()? {
-            let kept = self.kept.get(&step.epoch).ok_or(Cause::UnknownEpoch)?;
-            let proof = step.proof();
-            let key = check(&kept.body.nonce, &kept.body.root, &index, name, &proof)?;
-            // Equal keys are one allocation, since a history may repeat a long key at each epoch.
-            let key = match keys.last() {
-                Some((_, last)) if last.as_deref() == key => last.clone(),
-                _ => key.map(Arc::from),
+        let (name, mut needs) = (name.as_ref(), core_calls::HistoryNeeds::default());
+        refused(core_calls::history_needs(history, &mut needs))?;
+        let (now, verdicts) = (self.now(), verdicts::of_history(&self.keys, name, history, &needs));
+        let asking = core_calls::History { name: Text::of(name), history: Text::of(history) };
+        let mut steps = vec![core_calls::Step::default(); self.memory.kept.get().len() + 1];
+        let mut count = 0;
+        let status = self.memory.marked(|kept, watch, changes| {
+            core_calls::history(kept, watch, changes, &asking, &verdicts, &mut steps, &mut count)
+        });
+        refused(status)?;
+        let mut found = Vec::with_capacity(count);
+        let mut last: Option<(&[u8], Arc<[u8]>)> = None;
+        for it in steps.iter().take(count) {
+            let bytes = it.key.get();
+            // A key that a history repeats is one allocation, however long it is.
+            let key = match &last {
+                Some((before, key)) if before.as_ptr_range() == bytes.as_ptr_range() => key.clone(),
+                _ => Arc::from(bytes),
             };
-            keys.push((step.epoch, key));
+            last = Some((bytes, key.clone()));
+            found.push(self.found(it.place, (it.shows == SHOWS_KEY).then_some(key), it.seen, now)?);
         }
-        let found: Result<_, Cause> = keys.into_iter().map(|(epoch, key)| self.found(name, epoch, key, now)).collect();
-        Ok(found?)
+        Ok(found)
     }
 
-    /// Returns the chain's entry at an epoch, if a reply has it too. Its signature may be another one of the same body.
-    fn entry_of(&self, entry: &[u8; ENTRY_BYTES], epoch: Option<u64>) -> Result<&Kept, Refusal> {
-        let is_kept = self.kept.get(&Body::of_entry(entry)?.epoch).is_some_and(|it| it.entry == *entry);
-        if !is_kept {
-            if let Some(evidence) = self.convicting(self.verified(entry)?)? {
-                return Err(Refusal::with(Cause::Equivocation, None, Some(evidence)));
-            }
-        }
-        let asked = epoch.map_or_else(|| self.latest(), |it| self.kept.get(&it));
-        let kept = asked.ok_or(Cause::UnknownEpoch)?;
-        if kept.entry[..BODY_BYTES] == entry[..BODY_BYTES] {
-            Ok(kept)
-        } else {
-            Err(Cause::OtherEpoch.into())
-        }
-    }
-
-    fn found(&mut self, name: &[u8], epoch: u64, key: Option<Arc<[u8]>>, now: Duration) -> Result<Found, Cause> {
-        let age = self.age(epoch, now);
-        let kept = self.kept.get_mut(&epoch).ok_or(Cause::UnknownEpoch)?;
-        let watch = self.watch.as_mut().filter(|it| it.name == name && epoch >= it.since);
-        let seen = watch.map(|it| it.see(epoch, key.as_deref()));
-        kept.seen = seen.or(kept.seen);
-        Ok(Found { epoch, key, seen, age, first_seen: kept.first_seen })
+    fn found(&self, place: usize, key: Option<Arc<[u8]>>, seen: u32, now: Duration) -> Result<Found, Cause> {
+        let kept = self.memory.kept.get().get(place).ok_or(Cause::UnknownEpoch)?;
+        let epoch = epoch_of(kept);
+        let first_seen = u64::from_be_bytes(kept.first_seen);
+        Ok(Found { epoch, key, seen: seen_of(seen), age: self.age(epoch, now), first_seen })
     }
 
     fn now(&self) -> Duration {
         (self.clock)()
     }
 
+    fn seconds(&self) -> u64 {
+        self.now().as_secs()
+    }
+
+    fn present(&self, now: Duration) -> core_calls::Present {
+        let (start, period) = self.epochs.map_or((0, 0), |it| (it.start, it.period.get()));
+        core_calls::Present {
+            has_clock: self.epochs.is_some().into(),
+            start,
+            period,
+            max_age: self.max_age,
+            skew: self.skew,
+            time: now.as_secs(),
+        }
+    }
+
     fn age(&self, epoch: u64, now: Duration) -> Option<i128> {
         let begins = self.epochs?.begins(epoch);
         Some(i128::from(now.as_secs()).saturating_sub(begins.try_into().unwrap_or(i128::MAX)))
-    }
-
-    /// Whether proofs of an epoch are promised, if another one follows it in the chain.
-    fn is_promised(&self, following: u64, now: Duration) -> bool {
-        match (self.proofs_kept, self.epochs) {
-            (None, _) => true,
-            (Some(seconds), None) => seconds > 0,
-            (Some(seconds), Some(epochs)) => {
-                u128::from(now.as_secs()) < epochs.begins(following).saturating_add(seconds.into())
-            }
-        }
-    }
-
-    fn check_age(&self, kept: &Kept, now: Duration) -> Result<(), Cause> {
-        let Some(epochs) = self.epochs else {
-            return Ok(());
-        };
-        let begins = epochs.begins(kept.body.epoch);
-        if at(0, now) > at(begins, self.max_age) {
-            return Err(Cause::Stale);
-        }
-        if at(begins, Duration::ZERO) > at(u128::from(now.as_secs()), self.skew.saturating_add(fraction(now))) {
-            return Err(Cause::Future);
-        }
-        Ok(())
     }
 }
 
@@ -479,15 +517,20 @@ impl Client {
     ///
     /// [`Misuse`] for another name, key or first epoch than before, and for a name or key that no directory has.
     pub fn watch(&mut self, name: impl AsRef<[u8]>, key: Option<&[u8]>, since: Option<u64>) -> Result<(), Misuse> {
-        let first = since.or(self.latest_epoch()).unwrap_or(1);
-        let watch = Watch::of(name.as_ref(), key, first)?;
-        if let Some(own) = &self.watch {
-            return if own.is_again(&watch, since) { Ok(()) } else { Err(Misuse::OtherWatch) };
+        let (name, no_key) = (name.as_ref(), key.is_some_and(<[u8]>::is_empty));
+        let Memory { kept, watching, .. } = &mut self.memory;
+        let wanted = core_calls::Watch {
+            is_watched: 1,
+            name: Text::of(name),
+            since: since.unwrap_or(0),
+            key: Text::of(key.unwrap_or_default()),
+        };
+        if no_key && (1..=255).contains(&name.len()) {
+            return Err(Misuse::KeyLength);
         }
-        for it in self.kept.values_mut() {
-            it.seen = watch.first(it.body.epoch);
-        }
-        self.watch = Some(watch);
+        let (mut watch, changes) = raw(watching.as_ref());
+        misuse_of(core_calls::watch(kept.get_mut(), &mut watch, &changes, &wanted, since.is_some()))?;
+        *watching = Watching::of(&watch, &changes);
         Ok(())
     }
 
@@ -499,100 +542,108 @@ impl Client {
     /// [`Misuse`] if no name is watched, while another change is open, and if key or epoch do not change anything. A change is open
     /// until the chain has its epoch `by` or a later one, or an epoch showed its key.
     pub fn expect(&mut self, new_key: Option<&[u8]>, by: u64) -> Result<(), Misuse> {
-        let latest = self.latest_epoch().unwrap_or(0);
-        self.watch.as_mut().ok_or(Misuse::NotWatching)?.expect(new_key, latest, by)
+        let Memory { kept, watching, .. } = &mut self.memory;
+        if watching.is_some() && new_key.is_some_and(<[u8]>::is_empty) {
+            return Err(Misuse::KeyLength);
+        }
+        let (watch, mut changes) = raw(watching.as_ref());
+        let mut count = changes.len();
+        changes.push(core_calls::Change::default());
+        let key = new_key.unwrap_or_default();
+        misuse_of(core_calls::expect(kept.get(), &watch, &mut changes, &mut count, key, by))?;
+        *watching = Watching::of(&watch, &changes);
+        Ok(())
     }
 
     /// Returns the epochs that must show the watched name, and of which no reply was accepted.
     #[must_use]
     pub fn missing(&self) -> Vec<u64> {
-        self.kept.values().filter(|it| it.seen == Some(Watched::Missing)).map(|it| it.body.epoch).collect()
+        self.missing_at().map(|(_, epoch)| epoch).collect()
     }
 
     /// Returns the missing epochs of which the policy promises no proof any more, by the client's clock. Report that they can no
     /// longer be verified, never that they are the same.
     #[must_use]
     pub fn lost(&self) -> Vec<u64> {
-        let (now, following) = (self.now(), self.kept.values().skip(1).map(|it| it.body.epoch));
-        let missing = self.kept.values().zip(following).filter(|(it, _)| it.seen == Some(Watched::Missing));
-        missing.filter(|&(_, following)| !self.is_promised(following, now)).map(|(it, _)| it.body.epoch).collect()
+        let (present, kept) = (self.present(self.now()), self.memory.kept.get());
+        let missing = self.missing_at().filter(|&(at, _)| core_calls::is_lost(&present, &self.promise, kept, at));
+        missing.map(|(_, epoch)| epoch).collect()
     }
 
-    /// Returns all that the client keeps, for [`Client::resume`]: 70 bytes, 218 for each epoch, and the watched name.
+    /// Returns the missing epochs with their places.
+    fn missing_at(&self) -> impl Iterator<Item = (usize, u64)> + '_ {
+        let kept = self.memory.kept.get().iter().enumerate();
+        kept.filter(|(_, it)| seen_of(it.seen.into()) == Some(Watched::Missing)).map(|(at, it)| (at, epoch_of(it)))
+    }
+
+    /// Returns the alarms of dropped epochs, until their owner takes note of them.
+    #[must_use]
+    pub fn alarms(&self) -> Vec<Alarm> {
+        let alarm = |it: &core_calls::Alarm| Some(Alarm { epoch: it.epoch, seen: seen_of(it.seen.into())? });
+        self.memory.alarms.get().iter().filter_map(alarm).collect()
+    }
+
+    /// Takes note of the alarms up to an epoch, which the owner has seen: they are dropped.
+    pub fn note(&mut self, epoch: u64) {
+        let (alarms, count) = self.memory.alarms.all();
+        // There is always room for the alarms that there are.
+        let _status = core_calls::note(alarms, count, epoch);
+    }
+
+    /// Returns what to tell the owner of the watched name. Without [`Settings::trust`] it is never [`Report::Good`].
+    ///
+    /// # Errors
+    ///
+    /// [`Misuse::NotWatching`] if no name is watched.
+    pub fn report(&self) -> Result<Report, Misuse> {
+        let Memory { kept, watching, alarms, marks } = &self.memory;
+        let (present, (watch, _), mut found) =
+            (self.present(self.now()), raw(watching.as_ref()), core_calls::Report::default());
+        let (kept, alarms) = (kept.get(), alarms.get());
+        let quorum = self.quorum();
+        misuse_of(core_calls::report(&present, kept, &watch, &self.promise, alarms, marks, quorum, &mut found))?;
+        Ok(Report::of(&found))
+    }
+
+    /// Returns all that the client keeps, for [`Client::resume`]: 110 bytes, 218 for each epoch, 9 for each alarm, 8 for each auditor, and
+    /// the watched name.
     #[must_use]
     pub fn state(&self) -> Vec<u8> {
-        let mut state = Vec::from([STATE_VERSION]);
-        state.extend_from_slice(&self.digest);
-        // An epoch takes more than 218 bytes of memory, so that 2^32 of them are never kept.
-        state.extend_from_slice(&u32::try_from(self.kept.len()).unwrap_or(u32::MAX).to_be_bytes());
-        for it in self.kept.values() {
-            it.write(&mut state);
-        }
-        match &self.watch {
-            Some(it) => it.write(&mut state),
-            None => state.push(0),
-        }
-        let digest = sha256(&state);
-        state.extend_from_slice(&digest);
-        state
+        let Memory { kept, watching, alarms, marks } = &self.memory;
+        let (watch, changes) = raw(watching.as_ref());
+        let (kept, alarms, trust) = (kept.get(), alarms.get(), self.trust_digest());
+        let parts = core_calls::Parts { kept, watch, changes: &changes, alarms, trust, marks };
+        // There are fewer than 2^32 epochs, changes, alarms and auditors, which memory could not hold.
+        core_calls::state(&self.digest, &parts).unwrap_or_default()
+    }
+
+    fn trust_digest(&self) -> [u8; 32] {
+        self.trust.map_or([0; 32], |it| it.digest)
     }
 
     fn take_state(&mut self, state: &[u8]) -> Result<(), Refusal> {
-        let (whole, digest) =
-            state.split_last_chunk::<32>().filter(|_| state.len() >= LEAST_STATE).ok_or(Cause::StateLength)?;
-        let mut it = Reader { rest: whole, cut: Cause::StateForm };
-        if it.byte()? != STATE_VERSION {
-            return Err(Cause::StateVersion.into());
-        }
-        if sha256(whole) != *digest {
-            return Err(Cause::StateDamaged.into());
-        }
-        if *it.array::<32>()? != self.digest {
-            return Err(Cause::StatePolicy.into());
-        }
-        let count = it.u32()?;
-        let mut kept = Vec::new();
-        for _ in 0..count {
-            kept.push(Kept::read(&mut it)?);
-        }
-        let watch = Watch::read(&mut it)?;
-        let fits = |at: &Kept| watch.as_ref().map_or(at.seen.is_none(), |watch| watch.fits(at));
-        if !it.rest.is_empty() || !kept.iter().all(fits) {
-            return Err(Cause::StateForm.into());
-        }
-        self.watch = watch;
-        kept.into_iter().try_for_each(|it| self.take_kept(it)).map_err(|_| Cause::StateChain.into())
-    }
-
-    /// Takes the next entry of a state. The first may follow others.
-    fn take_kept(&mut self, kept: Kept) -> Result<(), Refusal> {
-        self.verified(&kept.entry)?;
-        if let Some(latest) = self.latest() {
-            follow(Some(latest), &kept.entry)?;
-        }
-        self.kept.insert(kept.body.epoch, kept);
+        let mut needs = core_calls::StateNeeds::default();
+        refused(core_calls::state_needs(&self.digest, state, &mut needs))?;
+        let verdicts = verdicts::of_state(&self.keys, state, &needs);
+        let (digest, trust) = (self.digest, self.trust_digest());
+        self.memory.kept.reserve(needs.kept, NO_EPOCH);
+        self.memory.alarms.reserve(needs.alarms, core_calls::Alarm::default());
+        let changes = vec![core_calls::Change::default(); needs.changes];
+        let (status, watching) = self.memory.written((core_calls::Watch::default(), changes), 0, |it, marks| {
+            core_calls::state_read(&digest, state, &verdicts, &trust, it, marks)
+        });
+        refused(status)?;
+        self.memory.watching = watching;
         Ok(())
     }
 }
 
-/// Checks that an entry whose signature was verified follows the latest one, or begins the chain.
-fn follow(latest: Option<&Kept>, verified_entry: &[u8; ENTRY_BYTES]) -> Result<(), Error> {
-    let mut auditor = latest.map_or_else(Auditor::new, |it| Auditor::after(&it.body, it.link));
-    let is_verified = true;
-    auditor.feed(verified_entry, is_verified)
+/// Returns the refusal of a status, if it is none of success.
+fn refused(status: u32) -> Result<(), Refusal> {
+    Cause::of(status).map_or(Ok(()), |it| Err(it.into()))
 }
 
-/// The body of an entry, and its signature.
-fn parts(entry: &[u8; ENTRY_BYTES]) -> Option<(&[u8; BODY_BYTES], &[u8; 64])> {
-    let (body, signature) = entry.split_first_chunk()?;
-    Some((body, signature.try_into().ok()?))
-}
-
-/// A time in seconds and nanoseconds after a time in seconds, for comparisons.
-fn at(seconds: u128, after: Duration) -> (u128, u32) {
-    (seconds.saturating_add(after.as_secs().into()), after.subsec_nanos())
-}
-
-fn fraction(time: Duration) -> Duration {
-    Duration::new(0, time.subsec_nanos())
+/// Returns the epoch of a kept entry.
+fn epoch_of(kept: &core_calls::Kept) -> u64 {
+    Body::of_entry(&kept.entry).map_or(0, |it| it.epoch)
 }
