@@ -503,7 +503,14 @@ REST = [
     Part("scripts/crates", ["scripts/crates", "crates.txt"], ["scripts/tests/test_crates.py"]),
     Part(
         "the library without a proof",
-        ["scripts/unproved-library", "scripts/unproved-kit", "scripts/compile-unproved", "crates/coniks_c/src/*", "include/*"],
+        [
+            "scripts/unproved-library",
+            "scripts/unproved-kit",
+            "scripts/unproved-tests",
+            "scripts/compile-unproved",
+            "crates/coniks_c/src/*",
+            "include/*",
+        ],
         ["scripts/tests/test_unproved.py"],
     ),
     Part("scripts/price", ["scripts/price", "scripts/minutes.py"], ["scripts/tests/test_price.py"]),

@@ -31,6 +31,9 @@ OVER = {
     "coniks_c": ["the library for C"],
 }
 
+# What runs the tests of a crate that take minutes under `rt try`.
+TESTS: dict[str, list[str]] = {"coniks_evidence": [str(TOP / "scripts/unproved-tests")]}
+
 
 def git(*words: str) -> list[str]:
     return subprocess.run(["git", *words], cwd=TOP, capture_output=True, text=True).stdout.splitlines()
@@ -157,7 +160,7 @@ def crate_jobs(names: Sequence[str]) -> list[Job]:
         jobs.append(Job(f"rt check in {name}", ["rt", "check"], before, TOP / "crates" / name, LONGEST))
         before = [jobs[-1].name]
     tested = [it for it, needs in crates().items() if not {it, *needs}.isdisjoint(names) and has_tests(it)]
-    return jobs + [Job(f"tests in {it}", ["rt", "try", "--test"], home=TOP / "crates" / it) for it in tested]
+    return jobs + [Job(f"tests in {it}", TESTS.get(it, ["rt", "try", "--test"]), home=TOP / "crates" / it) for it in tested]
 
 
 def processors() -> int:

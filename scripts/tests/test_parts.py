@@ -191,3 +191,5 @@ def test_crates() -> None:
     jobs = {it.name: it for it in quick.crate_jobs(names)}
     assert jobs["rt check in coniks_tree"].after == ["rt check in coniks_proof"]
     assert {"tests in coniks_base_tests", "tests in coniks_directory_tests"} < jobs.keys()
+    assert jobs["tests in coniks_base_tests"].words == ["rt", "try", "--test"]
+    assert jobs["tests in coniks_evidence"].words == [str(TOP / "scripts/unproved-tests")]
