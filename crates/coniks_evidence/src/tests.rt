@@ -1,5 +1,9 @@
 //! Records under a hash that returns 32 zero bytes for every message. The expected strings are written out by hand.
 
+mod clients;
+mod directories;
+mod worlds;
+
 use crate::{ContactRecord, Finding, OwnerRecord, Preimage, Reason, examine};
 use coniks_chain::ENTRY_BYTES;
 use coniks_client::{IndexScheme, Kept, Watch};
