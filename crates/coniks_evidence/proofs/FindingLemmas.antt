@@ -1,9 +1,7 @@
 -- What is found in two records, stage by stage.
-use Rattle.std.proofs.Common.{◌≡◌, ◌≢◌, ℕ, suc, ◌∷◌, ◌++◌, ◌<◌, get_or, length, List, Option, Some, refl, sym, ap, subst, ◌∙◌, ◌⊎◌, inl, inr, take}
+use Rattle.std.proofs.Common.{◌≡◌, ◌≢◌, ℕ, suc, ◌<◌, get_or, length, List, Option, Some, sym, ap, subst, ◌∙◌, inl, inr, take}
 use Rattle.std.specs.List.{slice_get}
 use Rattle.std.proofs.lemmas.Option.{same_Some, slice_get-get_or}
-use Rattle.coniks_proof.specs.Collisions.{IsCollision, hashed}
-use Rattle.coniks_proof.specs.Hashing.{hashing}
 use Rattle.coniks_proof.specs.Proofs.{said}
 use Rattle.coniks_proof.specs.declared.values.Head.{Head}
 use Rattle.coniks_proof.specs.declared.values.Index.{Index}
@@ -12,12 +10,11 @@ use Rattle.coniks_chain.specs.Fork.{HasNoFork}
 use Rattle.coniks_chain.specs.declared.entry.Entry.{Entry}
 use Rattle.coniks_client.specs.Kept.{entries_in, entry_in}
 use Rattle.coniks_client.specs.Owner.{Scheme}
-use Rattle.coniks_client.specs.Replies.{proof_part}
 use Rattle.coniks_client.specs.declared.kept.Kept.{Kept}
 use Rattle.coniks_client.proofs.Lemmas.{kept_of, of_take}
 use Rattle.coniks_evidence.specs.Findings.{Collides, Convicts, Finds, FindsIn, FindsOf, IsTrueOf}
-use Rattle.coniks_evidence.specs.Honest.{AreHonest, IsCalm, IsHashed, IsLinked, IsOnPath}
-use Rattle.coniks_evidence.specs.Records.{HasHeadAt, IsHeld, IsUpTo, expected_by}
+use Rattle.coniks_evidence.specs.Honest.{AreHonest, IsCalm, IsHashed, IsLinked}
+use Rattle.coniks_evidence.specs.Records.{IsHeld, IsUpTo, expected_by}
 use Rattle.coniks_evidence.specs.declared.findings.Finding.{Finding}
 use Rattle.coniks_evidence.specs.declared.findings.Finding.TheVariants.{Same, Links, Nodes, Indices, Nothing}
 use Rattle.coniks_evidence.specs.declared.findings.Indexed.{Indexed}

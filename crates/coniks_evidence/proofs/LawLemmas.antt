@@ -1,12 +1,10 @@
 -- Which records of clients are sound.
-use Rattle.std.proofs.Common.{◌≡◌, ◌≤◌, ℕ, List, Option, refl, sym, ap, subst, ◌∙◌, arith}
-use Rattle.std.specs.List.{slice_get}
+use Rattle.std.proofs.Common.{◌≡◌, ℕ, List, Option, sym, ap, subst, ◌∙◌, arith}
 use Rattle.std.proofs.lemmas.Option.{same_Some}
 use Rattle.coniks_client.specs.Changes.{IsDecided, wanted}
 use Rattle.coniks_client.specs.Kept.{entry_in, epoch_in}
 use Rattle.coniks_client.specs.Owner.{IsSame}
 use Rattle.coniks_client.specs.Told.{AgainLaw}
-use Rattle.coniks_client.specs.declared.kept.Kept.{Kept}
 use Rattle.coniks_evidence.specs.Laws.{FoundLaw, WatcherLaw}
 use Rattle.coniks_evidence.specs.Records.{IsAccepted, expected_by}
 

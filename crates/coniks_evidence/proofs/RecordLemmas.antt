@@ -1,12 +1,10 @@
 -- A saved reply, as its parts.
-use Rattle.std.proofs.Common.{◌≡◌, ◌≢◌, ℕ, ◌+◌, ◌<◌, ◌≤◌, List, length, Option, Some, refl, sym, ap, subst, ◌∙◌, ◌⊎◌, inl, inr, arith, drop, length-drop}
-use Rattle.std.specs.List.{slice_get}
+use Rattle.std.proofs.Common.{◌≡◌, ℕ, List, Option, Some, sym, ap, subst, ◌∙◌, arith, length-drop}
 use Rattle.std.proofs.lemmas.Option.{same_Some}
 use Rattle.coniks_proof.specs.declared.values.Index.{Index}
 use Rattle.coniks_chain.specs.Entries.{entry_from}
 use Rattle.coniks_chain.specs.declared.entry.Body.{Body}
 use Rattle.coniks_chain.specs.declared.entry.Entry.{Entry}
-use Rattle.coniks_client.specs.Kept.{entry_in, epoch_in}
 use Rattle.coniks_client.specs.Lookups.{Answers, Shows}
 use Rattle.coniks_client.specs.Owner.{Scheme}
 use Rattle.coniks_client.specs.Replies.{IsNoReply, IsReply, entry_part, proof_part, vrf_part}

@@ -9,7 +9,7 @@ use Rattle.coniks_chain.specs.Entries.{link_preimage}
 use Rattle.coniks_chain.specs.Fork.{HasNoFork, IsFork}
 use Rattle.coniks_chain.specs.declared.entry.Entry.{Entry}
 use Rattle.coniks_client.specs.Kept.{entries_in, entry_in, epoch_in}
-use Rattle.coniks_client.specs.Owner.{Scheme, TwoIndices}
+use Rattle.coniks_client.specs.Owner.{Scheme}
 use Rattle.coniks_client.specs.declared.kept.Kept.{Kept}
 use Rattle.coniks_evidence.specs.Records.{HasHeadAt, HasNoHead, IsHeld, IsUnheld, IsUpTo, expected_by}
 use Rattle.coniks_evidence.specs.declared.preimages.Colliding.{Colliding}

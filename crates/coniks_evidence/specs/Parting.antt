@@ -7,7 +7,7 @@ use Rattle.coniks_proof.specs.Preimages.{commitment_preimage}
 use Rattle.coniks_proof.specs.Proofs.{preimage}
 use Rattle.coniks_proof.specs.declared.values.Digest.{Digest}
 use Rattle.coniks_proof.specs.declared.paths.End.{End}
-use Rattle.coniks_proof.specs.declared.paths.End.TheVariants.{Empty, Other, Here}
+use Rattle.coniks_proof.specs.declared.paths.End.TheVariants.{Here}
 use Rattle.coniks_evidence.specs.declared.preimages.Colliding.{Colliding}
 use Rattle.coniks_evidence.specs.declared.parting.Meeting.{Meeting}
 

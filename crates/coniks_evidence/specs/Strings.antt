@@ -1,5 +1,5 @@
 -- Byte strings that are hashed, as the parts that they are made of.
-use Rattle.std.specs.Prelude.{◌≡◌, ◌≤◌, ◌∷◌, ◌++◌, length}
+use Rattle.std.specs.Prelude.{◌≤◌, ◌∷◌, ◌++◌, length}
 use Rattle.coniks_proof.specs.Octets.{Octets}
 use Rattle.coniks_proof.specs.declared.values.TheConstants.{MAX_KEY, MAX_NAME}
 use Rattle.coniks_evidence.specs.declared.preimages.Parts.{Parts}

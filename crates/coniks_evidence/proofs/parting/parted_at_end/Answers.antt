@@ -1,7 +1,6 @@
-use Rattle.std.proofs.Common.{rules, ◌≡◌, ◌<◌, ◌≤◌, ℕ, [], arith, length, drop, length-drop, ◌⊎◌, ⊎_elim}
+use Rattle.std.proofs.Common.{rules, ◌≡◌, ◌<◌, ◌≤◌, arith, length, drop, length-drop}
 use Rattle.coniks_proof.specs.Hashing.{hashing}
 use Rattle.coniks_proof.specs.ProofRefs.{listed, owned}
-use Rattle.coniks_proof.specs.declared.values.Digest.{Digest}
 use Rattle.coniks_evidence.proofs.PartingLemmas.{ended, other_ended, parts_at_ends, parts_left_longer, parts_opened, parts_right_longer}
 use Rattle.coniks_evidence.proofs.parting.parted_at_end.Goals as goal
 

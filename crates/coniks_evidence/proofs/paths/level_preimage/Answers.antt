@@ -1,4 +1,4 @@
-use Rattle.std.proofs.Common.{◌-◌, arith, refl}
+use Rattle.std.proofs.Common.{◌-◌, arith}
 use Rattle.coniks_proof.specs.Hashing.{hashing}
 use Rattle.coniks_proof.specs.ProofRefs.{listed, owned}
 use Rattle.coniks_evidence.proofs.PartingLemmas.{node_up}

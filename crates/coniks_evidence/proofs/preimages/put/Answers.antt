@@ -1,4 +1,4 @@
-use Rattle.std.proofs.Common.{length, ◌+◌, ◌-◌, ◌≤◌, ◌≡◌, arith}
+use Rattle.std.proofs.Common.{length, ◌+◌, ◌-◌, arith}
 use Rattle.std.proofs.lemmas.Slice.{drop-put_mid}
 use Rattle.coniks_evidence.proofs.preimages.put.Goals as goal
 

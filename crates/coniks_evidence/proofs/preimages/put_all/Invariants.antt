@@ -1,4 +1,4 @@
-use Rattle.std.proofs.Common.{◌≡◌, ◌≤◌, flat_map, length, take, drop}
+use Rattle.std.proofs.Common.{◌≡◌, flat_map, length, take, drop}
 use Rattle.coniks_evidence.proofs.preimages.put_all.Given as goal
 
 abbrev pub invariant-loop-piece : goal.invariant-loop-piece
