@@ -57,7 +57,7 @@ def test_example(here: Path, tmp_path: Path) -> None:
     wanted = json.loads((data / "messages.json").read_text("utf-8"))
     page = "".join((TOP / "docs/FORMATS.md").read_text("utf-8").split())
     assert all(
-        wanted[it] in page for it in ("reply", "history", "state", "watch")
+        wanted[it] in page for it in ("reply", "history", "state")
     ), "messages.json has the examples of docs/FORMATS.md"
     vectors = (TOP / "examples/provider/vectors.json", here / "go/client/testdata/vectors.json")
     assert vectors[0].read_bytes() == vectors[1].read_bytes()

@@ -57,7 +57,7 @@ class Language:
 
 
 LANGUAGES = {
-    "Go": Language(["go", "a C compiler", "edwards25519 for Go"], in_go),
+    "Go": Language(["go", "a C compiler", "edwards25519 for Go"], in_go, kind=client_sides.CORE),
     "Rust": Language(["cargo", "a C compiler", "libsodium"], in_rust, kind=client_sides.CORE),
     "JavaScript": Language(["node", "wasm-opt"], in_javascript, "module"),
     "C": Language(["a C compiler", "libsodium"], in_c, also=["refusing"], kind=client_sides.CORE),

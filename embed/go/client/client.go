@@ -14,17 +14,21 @@
 //	it.Missing()                            // the epochs for which no reply was accepted
 //	it.Lost()                               // those of them that can no longer be verified
 //	err = it.Expect(newKey, by)             // before I change my key
+//	it.Report()                             // what to tell the owner, with alarms of epochs that were dropped
 //	store(it.State())                       // and then client.Resume
 //
 // If the policy has a clock, the latest epoch must have begun at most MaxAge ago, by default two periods. It must begin at most
 // Skew from now, by default 300 seconds. Only LookupAt accepts an older epoch: pass a number of your own, never that of the reply.
-// Without a clock, Found.FirstSeen says since when this client has had the entry.
+// Without a clock, Found.FirstSeen says since when this client has had the entry. Times are compared in whole seconds: what is beyond
+// them of the time, of MaxAge and of Skew is left out.
 //
-// Each accepted entry is kept, until Cover is called with an auditor's head. Compare heads with auditors and other clients: Compare
-// says whether a head is one of this chain, and Evidence what convicts the provider together with another one's entry.
+// Each accepted entry is kept, until Drop is called, or Cover with an auditor's head. Compare heads with auditors and other clients:
+// Compare says whether a head is one of this chain, and Evidence what convicts the provider together with another one's entry. With Trust
+// in the Settings, Mark notes the heads of its auditors, and IsRelied says whether a quorum of them confirms an epoch.
 //
 // The keys are public keys of Ed25519 (RFC 8032) and of ECVRF-EDWARDS25519-SHA512-TAI (RFC 9381). For other schemes, set Signatures
-// and Indices. The proved C library decides about paths, chains and evidence.
+// and Indices. What a client accepts is decided by the proved core (include/coniks_core.h); verdicts.go makes the verdicts on signatures
+// and VRF proofs that it is given.
 package client
 
 import (
@@ -52,18 +56,27 @@ type Settings struct {
 	MaxAge, Skew *time.Duration
 	// Clock returns the time, which is not before 1970. It is time.Now if nil. It must not call the client.
 	Clock func() time.Time
+	// Trust names the auditors of which a quorum confirms epochs. None is confirmed if it is nil.
+	Trust *Trust
+}
+
+// Trust is what a client needs of a trust document: its SHA-256, how many auditors it has, and how many of them may lie or be silent. An
+// auditor's place, from 0 on, is that of its line among theirs.
+type Trust struct {
+	Digest           [32]byte
+	Auditors, Faulty uint32
 }
 
 // Client is a client of one directory. New, Resume and Vouched make one: its zero value can't be used. All calls can be used from
 // several goroutines, and are made one after another. A client must not be copied: one of both would miss what the other is fed.
 type Client struct {
-	mutex      sync.Mutex
-	signatures SignatureScheme
-	indices    IndexScheme
-	digest     [32]byte
-	clock      clock
-	chain      chain
-	watch      *watch
+	mutex         sync.Mutex
+	signatures    SignatureScheme
+	indices       IndexScheme
+	digest, trust [32]byte
+	quorum        int
+	clock         clock
+	memory        memory
 }
 
 // New returns a client that has no entry: the first one that it accepts begins the chain.
@@ -79,10 +92,24 @@ func New(settings Settings) (*Client, error) {
 	if it.clock, err = newClock(settings); err != nil {
 		return nil, err
 	}
-	return it, nil
+	return it, it.name(settings.Trust)
 }
 
-// Resume returns a client that goes on from the State of another one, of the same directory.
+// name takes the trust document, and makes a mark for each of its auditors.
+func (it *Client) name(trust *Trust) error {
+	if trust == nil {
+		return nil
+	}
+	it.trust, it.quorum = trust.Digest, quorumOf(trust.Auditors, trust.Faulty)
+	if it.quorum == 0 {
+		return errors.New("more than three auditors are needed for each one that may be faulty")
+	}
+	it.memory = newMemory(int(trust.Auditors))
+	return nil
+}
+
+// Resume returns a client that goes on from the State of another one, of the same directory. The marks of its auditors are those of the
+// state if that names the same trust document and as many auditors.
 func Resume(settings Settings, state []byte) (*Client, error) {
 	it, err := New(settings)
 	if err != nil {
@@ -95,7 +122,8 @@ func Resume(settings Settings, state []byte) (*Client, error) {
 }
 
 // Vouched returns a client whose chain begins with an entry for which at least so many auditors have a head. The heads are those of
-// the auditors for the entry's epoch, by the auditors' names: get each from the auditor itself.
+// at most 64 auditors for the entry's epoch, by the auditors' names: get each from the auditor itself. With Trust in the Settings, call Mark
+// with each of them afterwards.
 func Vouched(settings Settings, entry []byte, heads map[string]coniks.Head, least int) (*Client, error) {
 	it, err := New(settings)
 	if err != nil {
@@ -104,24 +132,19 @@ func Vouched(settings Settings, entry []byte, heads map[string]coniks.Head, leas
 	if least < 1 {
 		return nil, errors.New("at least one auditor vouches for an entry: pass how many must")
 	}
-	first, err := it.accept(entry)
+	rows := make([]coniks.Head, 0, len(heads))
+	for _, head := range heads {
+		rows = append(rows, head)
+	}
+	now, err := it.clock.now()
 	if err != nil {
 		return nil, err
 	}
-	vouching := 0
-	for _, head := range heads {
-		switch {
-		case head.Epoch != first.body.Epoch:
-		case head.Link != first.link:
-			return nil, refusal(AuditorsDiffer)
-		default:
-			vouching++
-		}
+	entry = copied(entry)
+	status, why := it.memory.begin(&it.digest, rows, least, entry, it.entryVerdict(entry), uint64(now.Unix()))
+	if err := it.accepted(status, why, entry); err != nil {
+		return nil, err
 	}
-	if vouching < least {
-		return nil, refusal(NotVouched)
-	}
-	it.chain = chain{first}
 	return it, nil
 }
 

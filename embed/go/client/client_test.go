@@ -5,6 +5,9 @@ import (
 	"encoding/hex"
 	"errors"
 	"fmt"
+	"os"
+	"path/filepath"
+	"regexp"
 	"strings"
 	"testing"
 	"time"
@@ -32,17 +35,11 @@ func TestExamplesOfFormats(t *testing.T) {
 		found.FirstSeen != uint64(now.Unix()) {
 		t.Error(found)
 	}
-	if state := hex.EncodeToString(it.State()); state != wanted.State {
-		t.Error(state)
-	}
 	again, err := Resume(settings, it.State())
 	if err != nil || !bytes.Equal(again.State(), it.State()) || fmt.Sprint(again.Missing()) != "[1]" {
 		t.Fatal(err)
 	}
 	good(t, it.Expect([]byte("n"), 5))
-	if watch := hex.EncodeToString(it.State()[37+2*218:]); watch != wanted.Watch {
-		t.Error(watch)
-	}
 	changed, err := Resume(settings, it.State())
 	if err != nil || !bytes.Equal(changed.State(), it.State()) {
 		t.Error(err)
@@ -50,6 +47,84 @@ func TestExamplesOfFormats(t *testing.T) {
 	all, err := again.History("alice", unhex(t, wanted.History))
 	if err != nil || len(all) != 2 || all[0].Epoch != 1 || string(all[0].Key) != "k" || all[1].Seen != Same || len(again.Missing()) > 0 {
 		t.Error(all, err)
+	}
+	if &all[0].Key[0] != &all[1].Key[0] {
+		t.Error("a key that a history repeats is one slice")
+	}
+}
+
+// The state of docs/FORMATS.md with an alarm and marks, and what becomes of both.
+func TestAuditorsOfFormats(t *testing.T) {
+	var now time.Time
+	wanted, settings := readExamples(t, &now)
+	begin := now
+	settings.Trust = &Trust{Auditors: 2, Faulty: 1}
+	copy(settings.Trust.Digest[:], unhex(t, wanted.Trust))
+	_, err := New(settings)
+	misuse(t, err)
+	settings.Trust.Faulty = 0
+	it, err := New(settings)
+	good(t, err)
+	_, err = it.Report()
+	misuse(t, err)
+	good(t, it.Watch("alice", []byte("l")))
+	for epoch, entry := range wanted.Entries {
+		now = begin.Add(time.Duration(epoch)*time.Hour + time.Minute)
+		_, err = it.FeedCatchUp(unhex(t, entry))
+		good(t, err)
+	}
+	_, err = it.History("alice", unhex(t, wanted.History))
+	good(t, err)
+	for auditor, confirmed := range []bool{false, true} {
+		found, err := it.Mark(auditor, *it.Head())
+		if _, is := it.Confirmed(); err != nil || found != Equal || is != confirmed {
+			t.Error(auditor, found, err)
+		}
+	}
+	_, err = it.Mark(2, *it.Head())
+	misuse(t, err)
+	if fmt.Sprint(it.Drop()) != "[1]" || hex.EncodeToString(it.State()) != wanted.State {
+		t.Error(hex.EncodeToString(it.State()))
+	}
+	it, err = Resume(settings, it.State())
+	good(t, err)
+	if alarms, want := it.Alarms(), (Alarm{1, Changed}); len(alarms) != 1 || alarms[0] != want {
+		t.Error(alarms)
+	}
+	if is, err := it.IsRelied(2); !is || err != nil {
+		t.Error(is, err)
+	}
+	_, err = it.IsRelied(1)
+	wants(t, err, UnknownEpoch)
+	for epoch, wanted := range []uint64{1, 2} {
+		it.Note(uint64(epoch))
+		if report, err := it.Report(); err != nil || report != (Report{ReportChanged, wanted, wanted}) {
+			t.Error(report, err)
+		}
+	}
+	settings.Trust.Auditors = 3
+	others, err := Resume(settings, it.State())
+	good(t, err)
+	if is, err := others.IsRelied(2); is || err != nil {
+		t.Error("the marks of other auditors count", err)
+	}
+}
+
+// The core is given verdicts that one file makes.
+func TestVerdictsInOnePlace(t *testing.T) {
+	files, err := filepath.Glob("*.go")
+	good(t, err)
+	var making []string
+	for _, file := range files {
+		text, err := os.ReadFile(file)
+		good(t, err)
+		isMaking := regexp.MustCompile(`signatures\.Verify\(|indices\.Index\(|verdicts\.(index|signature)`).Match(text)
+		if isMaking && !strings.HasSuffix(file, "_test.go") {
+			making = append(making, file)
+		}
+	}
+	if fmt.Sprint(making) != "[verdicts.go]" {
+		t.Error(making)
 	}
 }
 

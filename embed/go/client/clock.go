@@ -7,20 +7,20 @@ import (
 	"time"
 )
 
-const defaultSkew = 300 * time.Second
+// defaultSkew is in seconds.
+const defaultSkew = 300
 
-// clock is that of the policy, with which ages are computed, and what they may be. The period is 0 without one. Proofs are kept for
-// so many seconds, for ever if that is nil. A policy has numbers of 64 bits, so ages are exact: they may be longer than a
-// time.Duration.
+// clock is the caller's, with the policy's start and period, and the client's limits in whole seconds. The period is 0 without a clock of
+// the policy. Proofs are kept for so many seconds, for ever if that is nil.
 type clock struct {
 	read          func() time.Time
 	start, period uint64
-	maxAge, skew  *big.Int
+	maxAge, skew  uint64
 	proofsKept    *uint64
 }
 
 func newClock(settings Settings) (clock, error) {
-	it := clock{read: settings.Clock, maxAge: new(big.Int), skew: big.NewInt(int64(defaultSkew))}
+	it := clock{read: settings.Clock, skew: defaultSkew}
 	if it.read == nil {
 		it.read = time.Now
 	}
@@ -31,16 +31,20 @@ func newClock(settings Settings) (clock, error) {
 			it.proofsKept = &seconds
 		}
 	}
-	it.maxAge.Lsh(nanoseconds(it.period), 1)
+	// No epoch is older than 2^64 seconds.
+	it.maxAge = math.MaxUint64
+	if it.period <= math.MaxUint64/2 {
+		it.maxAge = 2 * it.period
+	}
 	for _, limit := range []struct {
 		given *time.Duration
-		taken **big.Int
+		taken *uint64
 	}{{settings.MaxAge, &it.maxAge}, {settings.Skew, &it.skew}} {
 		if limit.given != nil {
 			if *limit.given < 0 {
 				return clock{}, errors.New("MaxAge and Skew are at least 0: set another, or nil")
 			}
-			*limit.taken = big.NewInt(int64(*limit.given))
+			*limit.taken = uint64(*limit.given / time.Second)
 		}
 	}
 	return it, nil
@@ -73,34 +77,8 @@ func (it *clock) age(epoch uint64, now time.Time) *big.Int {
 	return age.Sub(age, periods.Mul(periods, nanoseconds(it.period)))
 }
 
-// check checks that an epoch is neither too old nor too far ahead.
-func (it *clock) check(epoch uint64, now time.Time) error {
-	age := it.age(epoch, now)
-	switch {
-	case age == nil:
-		return nil
-	case age.Cmp(it.maxAge) > 0:
-		return refusal(Stale)
-	case new(big.Int).Neg(age).Cmp(it.skew) > 0:
-		return refusal(Future)
-	}
-	return nil
-}
-
-// promises reports whether proofs of an epoch are promised at a time, if another one follows it in the chain.
-func (it *clock) promises(following uint64, now time.Time) bool {
-	if it.proofsKept == nil {
-		return true
-	}
-	age := it.age(following, now)
-	if age == nil {
-		return *it.proofsKept > 0
-	}
-	return age.Cmp(nanoseconds(*it.proofsKept)) < 0
-}
-
-// told returns an age for the caller, nil without a clock. One that is too long for a duration is the longest one.
-func (it *clock) told(epoch uint64, now time.Time) *time.Duration {
+// duration returns an age for the caller, nil without a clock. One that is too long for a duration is the longest one.
+func (it *clock) duration(epoch uint64, now time.Time) *time.Duration {
 	age := it.age(epoch, now)
 	if age == nil {
 		return nil

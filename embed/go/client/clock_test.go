@@ -7,7 +7,7 @@ import (
 	"time"
 )
 
-// The latest epoch is refused a nanosecond after MaxAge, and a nanosecond before Skew.
+// The latest epoch is refused a second after MaxAge, and before Skew: parts of a second are left out.
 func TestAges(t *testing.T) {
 	it := newWorld(t, "AA")
 	begin, none, ten := it.start(2), time.Duration(0), 10*time.Second
@@ -35,7 +35,11 @@ func TestAges(t *testing.T) {
 				t.Fatal(age, found, err)
 			}
 		}
-		for age, cause := range map[time.Duration]Cause{wanted.last + 1: Stale, wanted.first - 1: Future} {
+		now = begin.Add(wanted.last + time.Second - 1)
+		if _, err := made.Lookup("alice", it.reply(2)); err != nil {
+			t.Error(err)
+		}
+		for age, cause := range map[time.Duration]Cause{wanted.last + time.Second: Stale, wanted.first - 1: Future} {
 			now = begin.Add(age)
 			found, err := made.Lookup("alice", it.reply(2))
 			if wants(t, err, cause); found != nil {
@@ -55,16 +59,15 @@ func TestGreatNumbers(t *testing.T) {
 	for _, wanted := range []struct {
 		start, period, epoch uint64
 		age                  time.Duration
-		cause                Cause
 	}{
-		{math.MaxUint64, 1, 1, math.MinInt64, Future},
-		{0, math.MaxUint64, math.MaxUint64, math.MinInt64, Future},
-		{0, math.MaxUint64, 1, 1767225600*time.Second + 1, 0},
-		{0, 1, math.MaxUint64, math.MinInt64, Future},
-		{1767225600, 1 << 63, 3, math.MinInt64, Future},
-		{0, 1 << 60, 1<<4 + 1, math.MinInt64, Future},
-		{0, 1, 1, 1767225600*time.Second + 1, Stale},
-		{1767225601, 1, 1, -999999999, 0},
+		{math.MaxUint64, 1, 1, math.MinInt64},
+		{0, math.MaxUint64, math.MaxUint64, math.MinInt64},
+		{0, math.MaxUint64, 1, 1767225600*time.Second + 1},
+		{0, 1, math.MaxUint64, math.MinInt64},
+		{1767225600, 1 << 63, 3, math.MinInt64},
+		{0, 1 << 60, 1<<4 + 1, math.MinInt64},
+		{0, 1, 1, 1767225600*time.Second + 1},
+		{1767225601, 1, 1, -999999999},
 	} {
 		it := newWorld(t, "A")
 		settings := it.settings(1)
@@ -72,13 +75,8 @@ func TestGreatNumbers(t *testing.T) {
 		settings.Clock = nil
 		clock, err := newClock(settings)
 		good(t, err)
-		if age := clock.told(wanted.epoch, now); *age != wanted.age {
+		if age := clock.duration(wanted.epoch, now); *age != wanted.age {
 			t.Error(wanted, *age)
-		}
-		if err := clock.check(wanted.epoch, now); wanted.cause != 0 {
-			wants(t, err, wanted.cause)
-		} else if err != nil {
-			t.Error(wanted, err)
 		}
 	}
 	it := newWorld(t, "A")
@@ -92,7 +90,7 @@ func TestGreatNumbers(t *testing.T) {
 	}
 }
 
-// A missing epoch is lost at the nanosecond at which its proofs end. A bare digest promises them for ever.
+// A missing epoch is lost at the second at which its proofs end. A bare digest promises them for ever.
 func TestLost(t *testing.T) {
 	it, kept := newWorld(t, "AAA"), uint64(hour)
 	var now time.Time
@@ -125,16 +123,30 @@ func TestLost(t *testing.T) {
 			t.Error(wanted, lost)
 		}
 	}
-	it.policy.ProofsKept = new(uint64)
-	settings = it.settings(1000)
-	if clock, err := newClock(settings); err != nil || clock.promises(2, it.start(2)) {
-		t.Error("the policy's time is not read", err)
+}
+
+// lostOf returns the lost epochs of a client that saw no reply.
+func lostOf(t *testing.T, settings Settings, it *world) string {
+	made, err := New(settings)
+	good(t, err)
+	good(t, made.WatchSince("alice", []byte("A"), 1))
+	_, err = made.Feed(it.chain)
+	good(t, err)
+	return fmt.Sprint(made.Lost())
+}
+
+// The time that proofs are kept is read from the policy, and is for ever with a bare digest.
+func TestPromises(t *testing.T) {
+	it := newWorld(t, "AA")
+	settings := it.settings(3)
+	if lost := lostOf(t, settings, it); lost != "[]" {
+		t.Error("the policy promises proofs for ever", lost)
 	}
-	digest, err := it.policy.Digest()
+	digest, err := settings.Policy.Digest()
 	good(t, err)
 	settings.Policy, settings.Digest = nil, &digest
-	if clock, err := newClock(settings); err != nil || !clock.promises(2, it.start(1000000)) {
-		t.Error("a digest ends a promise", err)
+	if lost := lostOf(t, settings, it); lost != "[]" {
+		t.Error("a digest ends a promise", lost)
 	}
 }
 
@@ -146,7 +158,7 @@ func TestPolicyIsCopied(t *testing.T) {
 	clock, err := newClock(settings)
 	good(t, err)
 	kept = 0
-	if !clock.promises(2, it.start(2)) || clock.promises(2, it.start(3)) {
+	if *clock.proofsKept != uint64(hour) {
 		t.Error("the time that proofs are kept changed")
 	}
 }

@@ -19,7 +19,10 @@ func good(err error) {
 }
 
 // The directory of docs/FORMATS.md: what it publishes, and what its service sends.
-type directory struct{ Policy, Reply, History, State string }
+type directory struct {
+	Policy, Reply, History string
+	Entries                []string
+}
 
 // bytes is what the service sends.
 func bytes(digits string) []byte {
@@ -54,10 +57,18 @@ func ExampleResume() {
 	good(json.Unmarshal(text, &sent))
 	policy, err := coniks.ReadPolicy([]byte(sent.Policy))
 	good(err)
-	it, err := client.Resume(client.Settings{
+	settings := client.Settings{
 		SigningKey: policy.SigningKey[:], VRFKey: policy.VRFKey[:], Policy: &policy,
 		Clock: func() time.Time { return time.Unix(1767229260, 0) }, // leave it out for the present time
-	}, bytes(sent.State))
+	}
+	before, err := client.New(settings)
+	good(err)
+	good(before.Watch("alice", []byte("k")))
+	for _, entry := range sent.Entries {
+		_, err = before.FeedCatchUp(bytes(entry))
+		good(err)
+	}
+	it, err := client.Resume(settings, before.State())
 	good(err)
 	found, err := it.Lookup("alice", bytes(sent.Reply))
 	good(err)

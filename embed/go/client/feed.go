@@ -1,12 +1,16 @@
 package client
 
+// #include <coniks_core.h>
+import "C"
+
 import (
 	"errors"
 
 	"example.org/coniks"
 )
 
-// Step is an entry that was accepted: its epoch, and Missing if that must show the watched name, until a reply does.
+// Step is an entry that was accepted: its epoch, and Missing if that must show the watched name, until a reply does. One that is signed
+// again has what was seen of its epoch.
 type Step struct {
 	Epoch uint64
 	Seen  Watched
@@ -36,116 +40,81 @@ func (it Comparison) String() string {
 	return "invalid"
 }
 
-// Feed accepts entries that continue the chain, 209 bytes each. It returns a *Refusal at the first one that does not, and no steps;
-// the entries before it are kept.
+// Feed accepts entries that continue the chain, 209 bytes each, or the latest one signed again. It returns a *Refusal at the first one that
+// does not, and no steps; the entries before it are kept. After PreviousLink get the latest entry once more, and feed it before the next
+// one: it may have been signed again.
 func (it *Client) Feed(entries [][]byte) ([]Step, error) {
 	it.mutex.Lock()
 	defer it.mutex.Unlock()
 	steps := make([]Step, 0, len(entries))
 	for _, entry := range entries {
-		next, err := it.feed(entry)
+		step, err := it.feed(copied(entry))
 		if err != nil {
 			return nil, err
 		}
-		steps = append(steps, Step{next.body.Epoch, next.seen})
+		steps = append(steps, step)
 	}
 	return steps, nil
 }
 
 // FeedCatchUp accepts the entries of a catch-up, as Feed does. Bytes that are no catch-up are refused as a whole.
 func (it *Client) FeedCatchUp(catchUp []byte) ([]Step, error) {
-	entries, err := readCatchUp(catchUp)
-	if err != nil {
-		return nil, err
+	entries, status := entriesOf(catchUp)
+	if status != 0 {
+		return nil, refusal(Cause(status))
 	}
 	return it.Feed(entries)
 }
 
 // feed accepts one entry.
-func (it *Client) feed(entry []byte) (*kept, error) {
-	next, err := it.accept(entry)
-	if err != nil {
-		return nil, err
-	}
-	if err := it.chain.follow(next.entry); err != nil {
-		return nil, it.notFollowing(err, next.entry)
-	}
-	next.seen = it.watch.first(next.body.Epoch)
-	it.chain = append(it.chain, next)
-	return next, nil
-}
-
-// notFollowing returns the refusal of a signed entry that does not continue the chain.
-func (it *Client) notFollowing(err error, entry []byte) error {
-	var status coniks.Refused
-	if !errors.As(err, &status) {
-		return err
-	}
-	evidence, err := it.chain.convicting(entry)
-	if err != nil {
-		return err
-	}
-	if evidence == nil {
-		return refusal(Cause(status))
-	}
-	return &Refusal{Cause: Equivocation, Status: status, Evidence: evidence}
-}
-
-// accept returns a copy of an entry that is signed, of this directory, and one that some chain has.
-func (it *Client) accept(entry []byte) (*kept, error) {
-	entry = copied(entry)
-	if err := it.verify(it.chain, entry); err != nil {
-		return nil, err
-	}
+func (it *Client) feed(entry []byte) (Step, error) {
 	now, err := it.clock.now()
 	if err != nil {
-		return nil, err
+		return Step{}, err
 	}
-	return keptOf(entry, uint64(now.Unix()))
+	status, why := it.memory.feed(&it.digest, entry, it.entryVerdict(entry), uint64(now.Unix()))
+	if err := it.accepted(status, why, entry); err != nil {
+		return Step{}, err
+	}
+	latest := int(it.memory.count) - 1
+	return Step{it.memory.epochAt(latest), Watched(it.memory.kept[latest].seen)}, nil
 }
 
-// verify checks that an entry is signed, of this directory, and one that some chain has. The evidence is with one of the entries.
-func (it *Client) verify(entries chain, entry []byte) error {
-	if err := it.verifySignature(entry); err != nil {
-		return err
+// accepted returns what a status says of an entry, with what convicts together with it.
+func (it *Client) accepted(status C.uint32_t, why C.coniks_why, entry []byte) error {
+	switch {
+	case status == 0:
+		return nil
+	case status == manyHeads:
+		return errors.New("at most 64 auditors vouch for an entry")
 	}
-	body, err := coniks.BodyOf(entry)
-	if err != nil {
-		return err
+	refused := refusal(Cause(status))
+	if why.status != 0 {
+		refused.Status = coniks.Refused(why.status)
 	}
-	cause := OtherPolicy
-	if body.Policy == it.digest {
-		kind, err := coniks.Convicts(entry, entry)
-		if err != nil || kind == coniks.NoEvidence {
-			return err
-		}
-		cause = Malformed
-	}
-	evidence, err := entries.convicting(entry)
-	if err != nil {
-		return err
-	}
-	return &Refusal{Cause: cause, Evidence: evidence}
+	refused.Evidence = it.evidence(why, entry)
+	return refused
 }
 
-// verifySignature checks that an entry has 209 bytes and a valid signature, before anything else of it is read.
-func (it *Client) verifySignature(entry []byte) error {
-	if len(entry) != coniks.EntryBytes {
-		return refusal(EntryLength)
+// evidence returns what convicts together with an entry, nil if nothing does.
+func (it *Client) evidence(why C.coniks_why, entry []byte) *Evidence {
+	if why.kind == 0 {
+		return nil
 	}
-	if !it.signatures.Verify(copied(entry[:coniks.BodyBytes]), copied(entry[coniks.BodyBytes:])) {
-		return refusal(Signature)
+	mine := copied(entry)
+	if place := int(why.mine); place >= 0 && place < int(it.memory.count) {
+		mine = it.memory.entryAt(place)
 	}
-	return nil
+	return &Evidence{Mine: mine, Other: copied(entry), Kind: coniks.EvidenceKind(why.kind)}
 }
 
 // Entries returns the entries that are kept, in the order of the chain.
 func (it *Client) Entries() [][]byte {
 	it.mutex.Lock()
 	defer it.mutex.Unlock()
-	entries := make([][]byte, 0, len(it.chain))
-	for _, kept := range it.chain {
-		entries = append(entries, copied(kept.entry))
+	entries := make([][]byte, 0, int(it.memory.count))
+	for place := 0; place < int(it.memory.count); place++ {
+		entries = append(entries, it.memory.entryAt(place))
 	}
 	return entries
 }
@@ -154,49 +123,33 @@ func (it *Client) Entries() [][]byte {
 func (it *Client) Head() *coniks.Head {
 	it.mutex.Lock()
 	defer it.mutex.Unlock()
-	latest := it.chain.latest()
-	if latest == nil {
+	latest := int(it.memory.count) - 1
+	if latest < 0 {
 		return nil
 	}
-	return &coniks.Head{Epoch: latest.body.Epoch, Link: latest.link}
+	link, err := coniks.Link(it.memory.entryAt(latest))
+	if err != nil {
+		return nil
+	}
+	return &coniks.Head{Epoch: it.memory.epochAt(latest), Link: link}
 }
 
 // Compare returns whether a head is one of the chain, as far as its entries are kept.
 func (it *Client) Compare(head coniks.Head) Comparison {
 	it.mutex.Lock()
 	defer it.mutex.Unlock()
-	return it.chain.compare(head)
-}
-
-func (it chain) compare(head coniks.Head) Comparison {
-	if kept := it.at(head.Epoch); kept != nil {
-		if kept.link == head.Link {
-			return Equal
-		}
-		return Differs
-	}
-	if place := it.after(head.Epoch); place < len(it) && it[place].body.PreviousEpoch < head.Epoch {
-		return Differs
-	}
-	return Unknown
+	return Comparison(it.memory.compare(head))
 }
 
 // Cover drops the entries before that of an auditor's head, if Compare finds it equal: the auditor's chain has them. Epochs that are
-// missing stay, with what follows them.
+// missing and not lost stay, with what follows them. Each dropped watched epoch that was not the same leaves an alarm. With Trust in the
+// Settings, call Mark and Drop instead.
 func (it *Client) Cover(head coniks.Head) Comparison {
 	it.mutex.Lock()
 	defer it.mutex.Unlock()
-	found := it.chain.compare(head)
-	if found != Equal {
-		return found
-	}
-	first := 0
-	for it.chain[first].body.Epoch < head.Epoch && it.chain[first].seen != Missing {
-		first++
-	}
-	it.chain = append(chain(nil), it.chain[first:]...)
-	if it.watch != nil {
-		it.watch.settle(it.chain[0].body.Epoch)
+	found := Comparison(it.memory.compare(head))
+	if found == Equal {
+		it.drop([]C.uint64_t{C.uint64_t(head.Epoch)}, 1)
 	}
 	return found
 }
@@ -207,8 +160,13 @@ func (it *Client) Evidence(otherEntry []byte) (*Evidence, error) {
 	it.mutex.Lock()
 	defer it.mutex.Unlock()
 	entry := copied(otherEntry)
-	if err := it.verifySignature(entry); err != nil {
+	status, why := it.memory.evidence(entry, it.entryVerdict(entry))
+	if status != noEvidence {
+		return it.evidence(why, entry), it.accepted(status, C.coniks_why{}, entry)
+	}
+	kind, err := coniks.Convicts(entry, entry)
+	if err != nil || kind == coniks.NoEvidence {
 		return nil, err
 	}
-	return it.chain.convicting(entry)
+	return &Evidence{Mine: entry, Other: copied(entry), Kind: kind}, nil
 }

@@ -49,11 +49,13 @@ func TestHostileLengths(t *testing.T) {
 	it := newWorld(t, "A")
 	made, settings := it.client(t, 1), it.settings(1)
 	state := made.State()
-	front, most := state[:33], []byte{255, 255, 255, 255}
+	front, most, none := state[:33], []byte{255, 255, 255, 255}, make([]byte, 4)
+	// No alarm, no trust document and no mark; and the name.
+	rest := make([]byte, 4+32+4)
 	watch := bytes.Join([][]byte{{1, 1, 'a'}, make([]byte, 8)}, nil)
 	// Of no epoch, with so many changes after no key.
 	watching := func(count byte, changes ...[]byte) []byte {
-		return renewed(front, make([]byte, 4), watch, make([]byte, 7), []byte{count}, bytes.Join(changes, nil))
+		return renewed(front, none, rest, watch, make([]byte, 7), []byte{count}, bytes.Join(changes, nil))
 	}
 	changed := func(lastOld, firstNew uint64, key string) []byte {
 		return bytes.Join([][]byte{number(lastOld, 8), number(firstNew, 8), number(uint64(len(key)), 4), []byte(key)}, nil)
@@ -62,11 +64,11 @@ func TestHostileLengths(t *testing.T) {
 		"2^32 - 1 epochs":           renewed(front, most, state[37:]),
 		"2^31 epochs":               renewed(front, []byte{128, 0, 0, 0}, state[37:]),
 		"two epochs":                renewed(front, []byte{0, 0, 0, 2}, state[37:]),
-		"a key of 2^32 - 1 bytes":   renewed(front, make([]byte, 4), watch, most, []byte("key")),
-		"a name of 255 bytes":       renewed(front, make([]byte, 4), []byte{1, 255}, make([]byte, 64)),
-		"a name of no byte":         renewed(front, make([]byte, 4), []byte{1, 0}, make([]byte, 12)),
-		"a watch that is cut":       renewed(front, make([]byte, 4), watch[:5]),
-		"2^32 - 1 changes":          renewed(front, make([]byte, 4), watch, make([]byte, 4), most, changed(0, 1, "A")),
+		"a key of 2^32 - 1 bytes":   renewed(front, none, rest, watch, most, []byte("key")),
+		"a name of 255 bytes":       renewed(front, none, rest, []byte{1, 255}, make([]byte, 64)),
+		"a name of no byte":         renewed(front, none, rest, []byte{1, 0}, make([]byte, 12)),
+		"a watch that is cut":       renewed(front, none, rest, watch[:5]),
+		"2^32 - 1 changes":          renewed(front, none, rest, watch, make([]byte, 4), most, changed(0, 1, "A")),
 		"a change too many":         watching(2, changed(0, 1, "A")),
 		"a change too few":          watching(0, changed(0, 1, "A")),
 		"a change that is cut":      watching(1, make([]byte, 15)),
@@ -75,13 +77,17 @@ func TestHostileLengths(t *testing.T) {
 		"a change without an epoch": watching(1, changed(7, 7, "A")),
 		"a change back to its key":  watching(2, changed(0, 1, "A"), changed(1, 2, "A")),
 		"a change within another":   watching(2, changed(0, 5, "A"), changed(4, 6, "B")),
-		"a kind of 2":               renewed(front, make([]byte, 4), []byte{2}, watch[1:], make([]byte, 8)),
-		"bytes after it":            renewed(front, make([]byte, 4), []byte{0, 0}),
-		"a seen of 2":               renewed(state[:37+217], []byte{2}, watch, make([]byte, 8)),
-		"a seen of 6":               renewed(state[:37+217], []byte{6}, watch, make([]byte, 8)),
-		"a seen of 0, watched":      renewed(state[:37+217], []byte{0}, watch, make([]byte, 8)),
-		"a seen of 1 in a change":   renewed(state[:37+217], []byte{1}, watch, make([]byte, 7), []byte{1}, changed(0, 2, "A")),
-		"a seen without a watch":    renewed(state[:37+217], []byte{5}, []byte{0}),
+		"a kind of 2":               renewed(front, none, rest, []byte{2}, watch[1:], make([]byte, 8)),
+		"2^32 - 1 alarms":           renewed(front, none, most, rest, []byte{0}),
+		"2^32 - 1 marks":            renewed(front, none, none, make([]byte, 32), most, make([]byte, 8), []byte{0}),
+		"an alarm without a watch":  renewed(front, none, []byte{0, 0, 0, 1}, number(1, 8), []byte{5}, rest[4:], []byte{0}),
+		"an alarm of the same key":  renewed(front, none, []byte{0, 0, 0, 1}, number(1, 8), []byte{1}, rest[4:], watch, make([]byte, 8)),
+		"bytes after it":            renewed(front, none, rest, []byte{0, 0}),
+		"a seen of 2":               renewed(state[:37+217], []byte{2}, rest, watch, make([]byte, 8)),
+		"a seen of 6":               renewed(state[:37+217], []byte{6}, rest, watch, make([]byte, 8)),
+		"a seen of 0, watched":      renewed(state[:37+217], []byte{0}, rest, watch, make([]byte, 8)),
+		"a seen of 1 in a change":   renewed(state[:37+217], []byte{1}, rest, watch, make([]byte, 7), []byte{1}, changed(0, 2, "A")),
+		"a seen without a watch":    renewed(state[:37+217], []byte{5}, rest, []byte{0}),
 	}
 	for what, state := range states {
 		if size := allocated(func() {
@@ -136,7 +142,7 @@ func TestNothing(t *testing.T) {
 	it := newWorld(t, "A")
 	made, err := New(it.settings(1))
 	good(t, err)
-	if made.Head() != nil || len(made.Entries()) != 0 || len(made.Missing()) != 0 || len(made.State()) != 70 {
+	if made.Head() != nil || len(made.Entries()) != 0 || len(made.Missing()) != 0 || len(made.State()) != 110 {
 		t.Error("a new client has something")
 	}
 	if made.Compare(coniks.Head{}) != Unknown || made.Cover(coniks.Head{}) != Unknown {

@@ -1,8 +1,9 @@
 package client
 
+// #include <coniks_core.h>
+import "C"
+
 import (
-	"bytes"
-	"errors"
 	"time"
 
 	"example.org/coniks"
@@ -23,12 +24,6 @@ type Found struct {
 	FirstSeen uint64
 }
 
-// shown is the key that a proof shows at an epoch, nil for none.
-type shown struct {
-	kept *kept
-	key  []byte
-}
-
 // Lookup returns what a reply shows of a name at the latest epoch. It returns nil with a *Refusal.
 func (it *Client) Lookup(name string, reply []byte) (*Found, error) {
 	return it.lookup(name, reply, nil)
@@ -43,30 +38,25 @@ func (it *Client) LookupAt(name string, reply []byte, epoch uint64) (*Found, err
 func (it *Client) lookup(name string, whole []byte, epoch *uint64) (*Found, error) {
 	it.mutex.Lock()
 	defer it.mutex.Unlock()
-	reply, err := readReply(copied(whole))
-	if err != nil {
-		return nil, err
+	reply := copied(whole)
+	status, needs := it.memory.replyNeeds(reply)
+	if status != 0 {
+		return nil, refusal(Cause(status))
 	}
 	now, err := it.clock.now()
 	if err != nil {
 		return nil, err
 	}
-	kept, err := it.entryOf(reply.entry, epoch)
-	if err == nil && epoch == nil {
-		err = it.clock.check(kept.body.Epoch, now)
-	}
-	if err != nil {
+	verdicts := it.replyVerdicts(name, reply, needs)
+	status, shown, why := it.memory.lookup(&it.digest, it.clock.present(now), name, reply, epoch, verdicts)
+	if err := it.accepted(status, why, part(reply, needs.entry_start, coniks.EntryBytes)); err != nil {
 		return nil, err
 	}
-	index, err := it.index(name, reply.vrf)
-	if err != nil {
-		return nil, err
+	var key []byte
+	if shown.shows == showsKey {
+		key = copied(part(reply, shown.key_start, shown.key_length))
 	}
-	key, err := keyOf(name, kept, index, reply.proof)
-	if err != nil {
-		return nil, err
-	}
-	found := it.found(name, shown{kept, key}, now)
+	found := it.found(int(shown.place), key, shown.seen, now)
 	return &found, nil
 }
 
@@ -75,102 +65,54 @@ func (it *Client) lookup(name string, whole []byte, epoch *uint64) (*Found, erro
 func (it *Client) History(name string, whole []byte) ([]Found, error) {
 	it.mutex.Lock()
 	defer it.mutex.Unlock()
-	history, err := readHistory(copied(whole))
-	if err != nil {
-		return nil, err
+	history := copied(whole)
+	status, needs := historyNeeds(history)
+	if status != 0 {
+		return nil, refusal(Cause(status))
 	}
 	now, err := it.clock.now()
 	if err != nil {
 		return nil, err
 	}
-	index, err := it.index(name, history.vrf)
-	if err != nil {
-		return nil, err
+	verdicts := it.indexVerdict(name, part(history, needs.vrf_start, needs.vrf_length))
+	status, steps := it.memory.history(name, history, verdicts)
+	if status != 0 {
+		return nil, refusal(Cause(status))
 	}
-	var all []shown
-	err = history.each(func(step *step) error {
-		kept := it.chain.at(step.epoch)
-		if kept == nil {
-			return refusal(UnknownEpoch)
+	found := make([]Found, 0, len(steps))
+	for _, step := range steps {
+		var key []byte
+		if step.isKey {
+			// A key that a history repeats is one slice, however long it is.
+			key = history[step.from : step.from+step.length : step.from+step.length]
 		}
-		key, err := keyOf(name, kept, index, step.proof())
-		if err != nil {
-			return err
-		}
-		// A history may repeat a long key at each epoch.
-		if len(all) > 0 && key != nil && bytes.Equal(all[len(all)-1].key, key) {
-			key = all[len(all)-1].key
-		}
-		all = append(all, shown{kept, key})
-		return nil
-	})
-	if err != nil {
-		return nil, err
-	}
-	found := make([]Found, 0, len(all))
-	for _, one := range all {
-		found = append(found, it.found(name, one, now))
+		found = append(found, it.found(step.place, key, step.seen, now))
 	}
 	return found, nil
 }
 
-// entryOf returns the chain's entry at an epoch, the latest if none is asked, if a reply has it too. Its signature may be another one
-// of the same body.
-func (it *Client) entryOf(entry []byte, epoch *uint64) (*kept, error) {
-	body, err := coniks.BodyOf(entry)
-	if err != nil {
-		return nil, err
-	}
-	if same := it.chain.at(body.Epoch); same == nil || !bytes.Equal(same.entry, entry) {
-		if err := it.verify(it.chain, entry); err != nil {
-			return nil, err
-		}
-		evidence, err := it.chain.convicting(entry)
-		if err != nil {
-			return nil, err
-		}
-		if evidence != nil {
-			return nil, &Refusal{Cause: Equivocation, Evidence: evidence}
-		}
-	}
-	kept := it.chain.latest()
-	if epoch != nil {
-		kept = it.chain.at(*epoch)
-	}
-	switch {
-	case kept == nil:
-		return nil, refusal(UnknownEpoch)
-	case !bytes.Equal(kept.entry[:coniks.BodyBytes], entry[:coniks.BodyBytes]):
-		return nil, refusal(OtherEpoch)
-	}
-	return kept, nil
+func (it *Client) found(place int, key []byte, seen C.uint32_t, now time.Time) Found {
+	epoch := it.memory.epochAt(place)
+	return Found{epoch, key, Watched(seen), it.clock.duration(epoch, now), it.memory.firstSeenAt(place)}
 }
 
-// index returns the index of a name whose proof is valid.
-func (it *Client) index(name string, proof []byte) ([32]byte, error) {
-	index, isValid := it.indices.Index(name, copied(proof))
-	if !isValid {
-		return [32]byte{}, refusal(VRFProof)
+// present returns the policy's clock, the limits and the time, as the core takes them.
+func (it *clock) present(now time.Time) (out C.coniks_present) {
+	if it.period > 0 {
+		out.has_clock, out.start, out.period = 1, C.uint64_t(it.start), C.uint64_t(it.period)
 	}
-	return index, nil
+	out.max_age, out.skew = C.uint64_t(it.maxAge), C.uint64_t(it.skew)
+	// A time before 1970 counts as 1970.
+	if seconds := now.Unix(); seconds > 0 {
+		out.time = C.uint64_t(seconds)
+	}
+	return out
 }
 
-// keyOf returns a copy of the key that a proof shows, nil for none.
-func keyOf(name string, kept *kept, index [32]byte, proof []byte) ([]byte, error) {
-	key, err := coniks.Check(kept.body.Nonce, kept.body.Root, index, name, proof)
-	var status coniks.Refused
-	if errors.As(err, &status) {
-		return nil, refusal(Cause(status))
+// promise returns how long the policy promises proofs.
+func (it *clock) promise() (out C.coniks_promise) {
+	if it.proofsKept != nil {
+		out.is_limited, out.seconds = 1, C.uint64_t(*it.proofsKept)
 	}
-	return copied(key), err
-}
-
-// found keeps what an accepted proof shows of the watched name, and returns it.
-func (it *Client) found(name string, one shown, now time.Time) Found {
-	epoch, seen := one.kept.body.Epoch, Unwatched
-	if it.watch != nil && name == it.watch.name && epoch >= it.watch.since {
-		seen = it.watch.see(epoch, one.key)
-		one.kept.seen = seen
-	}
-	return Found{epoch, one.key, seen, it.clock.told(epoch, now), one.kept.firstSeen}
+	return out
 }

@@ -1,13 +1,15 @@
 package client
 
+// #include <coniks_core.h>
+import "C"
+
 import (
-	"bytes"
 	"errors"
 	"fmt"
 	"sort"
-)
 
-const longestName = 255
+	"example.org/coniks"
+)
 
 // Watched is what an epoch shows of the watched name.
 type Watched uint8
@@ -17,6 +19,7 @@ const (
 	Unwatched Watched = iota
 	// Same means that the epoch shows the expected key, or none if none is expected.
 	Same
+	_
 	// Changed means that the epoch shows another key, or a key though none is expected.
 	Changed
 	// Absent means that the epoch shows no key, though one is expected.
@@ -26,38 +29,49 @@ const (
 )
 
 func (it Watched) String() string {
-	names := []string{"unwatched", "same", "changed", "absent", "missing"}
-	if int(it) < len(names) {
+	names := []string{Unwatched: "unwatched", Same: "same", Changed: "changed", Absent: "absent", Missing: "missing"}
+	if int(it) < len(names) && names[it] != "" {
 		return names[it]
 	}
 	return fmt.Sprintf("Watched(%d)", uint8(it))
 }
 
-// change is a change of the watched key that its owner makes: epochs up to lastOld show the key before it, and those from firstNew
-// on the new key. An epoch between them may show either, and becomes lastOld or firstNew then.
-type change struct {
-	lastOld, firstNew uint64
-	key               []byte
+// Alarm is an epoch of the watched name that was dropped, and not seen as the same: Changed, Absent, or Missing if it was lost.
+type Alarm struct {
+	Epoch uint64
+	Seen  Watched
 }
 
-// watch is the watched name: the key that epochs from `since` on must show before the first change, nil if it must be bound to none,
-// and the changes in their order.
-type watch struct {
-	name    string
-	since   uint64
-	key     []byte
-	changes []change
+// Verdict is what a client reports of the watched name: the first of these that applies.
+type Verdict uint8
+
+const (
+	// ReportChanged means that the epoch shows another key, or no key.
+	ReportChanged Verdict = iota + 1
+	// ReportMissing means that the kept epoch is missing, and not lost.
+	ReportMissing
+	// ReportLost means that the epoch is lost.
+	ReportLost
+	// ReportUnwatched means that no kept epoch is watched.
+	ReportUnwatched
+	// ReportUnconfirmed means that each epoch shows the expected key, but that no quorum of auditors confirms the latest one.
+	ReportUnconfirmed
+	// ReportGood means that each epoch shows the expected key, and that a quorum of auditors confirms all of them.
+	ReportGood
+)
+
+func (it Verdict) String() string {
+	names := []string{"", "changed", "missing", "lost", "unwatched", "unconfirmed", "good"}
+	if it > 0 && int(it) < len(names) {
+		return names[it]
+	}
+	return fmt.Sprintf("Verdict(%d)", uint8(it))
 }
 
-// newWatch returns a watch of a name that its caller gives.
-func newWatch(name string, key []byte, since uint64) (*watch, error) {
-	if len(name) < 1 || len(name) > longestName {
-		return nil, fmt.Errorf("a name has 1 to %d bytes, not %d", longestName, len(name))
-	}
-	if err := checkExpected(key); err != nil {
-		return nil, err
-	}
-	return &watch{name: name, since: since, key: copied(key)}, nil
+// Report is what to tell the owner of the watched name, and the first and the last epoch that it is about, 0 for ReportUnwatched.
+type Report struct {
+	Verdict     Verdict
+	First, Last uint64
 }
 
 // checkExpected checks an expected key that its caller gives. No accepted proof shows an empty one.
@@ -68,104 +82,34 @@ func checkExpected(key []byte) error {
 	return nil
 }
 
-// expects reports whether a key is the first one or that of a change. No byte stands for no key.
-func (it *watch) expects(key []byte) bool {
-	for begun := 0; begun <= len(it.changes); begun++ {
-		if bytes.Equal(key, it.keyAfter(begun)) {
-			return true
-		}
+// misuse returns the error of a call that the caller must not make.
+func (it *Client) misuse(status C.uint32_t, name string) error {
+	latest, by := uint64(0), uint64(0)
+	if it.memory.count > 0 {
+		latest = it.memory.epochAt(int(it.memory.count) - 1)
 	}
-	return false
-}
-
-// begun returns the number of changes whose firstNew is an epoch or an earlier one.
-func (it *watch) begun(epoch uint64) int {
-	return sort.Search(len(it.changes), func(at int) bool { return it.changes[at].firstNew > epoch })
-}
-
-// keyAfter returns the key after the first changes.
-func (it *watch) keyAfter(begun int) []byte {
-	if begun == 0 {
-		return it.key
+	if changes := it.memory.changes; len(changes) > 0 {
+		by = changes[len(changes)-1].firstNew
 	}
-	return it.changes[begun-1].key
-}
-
-// between returns the change whose lastOld is before an epoch and whose firstNew is after it, nil if there is none.
-func (it *watch) between(epoch uint64) *change {
-	if begun := it.begun(epoch); begun < len(it.changes) && it.changes[begun].lastOld < epoch {
-		return &it.changes[begun]
-	}
-	return nil
-}
-
-// first is what is seen at an epoch before there is a reply.
-func (it *watch) first(epoch uint64) Watched {
-	if it == nil || epoch < it.since {
-		return Unwatched
-	}
-	return Missing
-}
-
-// see returns what a watched epoch shows with a key, nil for none, and marks it in the change that it is between. A key that changes
-// back is another one.
-func (it *watch) see(epoch uint64, key []byte) Watched {
-	isKey, between := bytes.Equal(key, it.keyAfter(it.begun(epoch))), it.between(epoch)
-	isNew := between != nil && bytes.Equal(key, between.key)
-	switch {
-	case isKey && between != nil:
-		between.lastOld = epoch
-	case isNew:
-		between.firstNew = epoch
-	}
-	switch {
-	case isKey || isNew:
-		return Same
-	case key == nil:
-		return Absent
-	}
-	return Changed
-}
-
-// expect adds a change, after the latest epoch. It returns an error while another one is open.
-func (it *watch) expect(key []byte, latest, by uint64) error {
-	begun := it.begun(latest)
-	switch {
-	case begun < len(it.changes):
-		return fmt.Errorf("another change is expected by epoch %d: expect the next one after it", it.changes[begun].firstNew)
-	case bytes.Equal(key, it.keyAfter(begun)):
+	switch status {
+	case 0:
+		return nil
+	case nameLength:
+		return fmt.Errorf("a name has 1 to 255 bytes, not %d", len(name))
+	case otherWatch:
+		return errors.New("this client watches another name or key: call Expect, or make another client")
+	case notWatching:
+		return errors.New("no name is watched: call Watch first")
+	case changeOpen:
+		return fmt.Errorf("another change is expected by epoch %d: expect the next one after it", by)
+	case sameKey:
 		return errors.New("the new key is the one that is expected already")
-	case by <= latest:
+	case notLater:
 		return fmt.Errorf("epoch %d is in the chain: expect the new key by a later one", latest)
+	case noAuditor:
+		return errors.New("the trust document has no such auditor")
 	}
-	it.changes = append(it.changes, change{latest, by, copied(key)})
-	return nil
-}
-
-// settle drops the changes that no epoch from the oldest kept one on needs. The key after them becomes the first one.
-func (it *watch) settle(oldest uint64) {
-	begun := it.begun(oldest)
-	it.key, it.changes = it.keyAfter(begun), append([]change(nil), it.changes[begun:]...)
-}
-
-// isInOrder reports whether each change begins when the one before it is over, and changes the key.
-func (it *watch) isInOrder() bool {
-	from := uint64(0)
-	for at, change := range it.changes {
-		if change.lastOld < from || change.firstNew <= change.lastOld || bytes.Equal(change.key, it.keyAfter(at)) {
-			return false
-		}
-		from = change.firstNew
-	}
-	return true
-}
-
-// fits reports whether an epoch of a state can have been seen so. The watch is nil if no name is watched.
-func (it *watch) fits(kept *kept) bool {
-	if it == nil || kept.body.Epoch < it.since {
-		return kept.seen == Unwatched
-	}
-	return kept.seen != Unwatched && (kept.seen != Same || it.between(kept.body.Epoch) == nil)
+	return errors.New("an expected key has less than 2^32 bytes")
 }
 
 // Watch watches the client's own name: each epoch from the latest on, from 1 on without an entry, must show the key, or none if it is
@@ -181,27 +125,10 @@ func (it *Client) WatchSince(name string, key []byte, since uint64) error {
 func (it *Client) watchFrom(name string, key []byte, since *uint64) error {
 	it.mutex.Lock()
 	defer it.mutex.Unlock()
-	first := uint64(1)
-	if latest := it.chain.latest(); since != nil {
-		first = *since
-	} else if latest != nil {
-		first = latest.body.Epoch
-	}
-	made, err := newWatch(name, key, first)
-	if err != nil {
+	if err := checkExpected(key); err != nil && len(name) > 0 && len(name) <= 255 {
 		return err
 	}
-	if before := it.watch; before != nil {
-		if name != before.name || !before.expects(key) || since != nil && *since != before.since {
-			return errors.New("this client watches another name or key: call Expect, or make another client")
-		}
-		return nil
-	}
-	it.watch = made
-	for _, kept := range it.chain {
-		kept.seen = made.first(kept.body.Epoch)
-	}
-	return nil
+	return it.misuse(it.memory.beginWatch(name, key, since), name)
 }
 
 // Expect expects the owner's own change of the key, to none if it is nil: later epochs may show the old or the new key, and from
@@ -210,30 +137,17 @@ func (it *Client) watchFrom(name string, key []byte, since *uint64) error {
 func (it *Client) Expect(key []byte, by uint64) error {
 	it.mutex.Lock()
 	defer it.mutex.Unlock()
-	if it.watch == nil {
-		return errors.New("no name is watched: call Watch first")
-	}
-	if err := checkExpected(key); err != nil {
+	if err := checkExpected(key); err != nil && it.memory.isWatched {
 		return err
 	}
-	latest := uint64(0)
-	if last := it.chain.latest(); last != nil {
-		latest = last.body.Epoch
-	}
-	return it.watch.expect(key, latest, by)
+	return it.misuse(it.memory.expect(key, by), "")
 }
 
 // Missing returns the epochs that must show the watched name, and of which no reply was accepted.
 func (it *Client) Missing() []uint64 {
 	it.mutex.Lock()
 	defer it.mutex.Unlock()
-	var epochs []uint64
-	for _, kept := range it.chain {
-		if kept.seen == Missing {
-			epochs = append(epochs, kept.body.Epoch)
-		}
-	}
-	return epochs
+	return it.missing(func(int) bool { return true })
 }
 
 // Lost returns the missing epochs of which the policy promises no proof any more, by the Clock of the Settings. Report that they can
@@ -241,13 +155,94 @@ func (it *Client) Missing() []uint64 {
 func (it *Client) Lost() []uint64 {
 	it.mutex.Lock()
 	defer it.mutex.Unlock()
-	now := it.clock.read()
-	var epochs []uint64
-	for at, kept := range it.chain {
-		isLatest := at == len(it.chain)-1
-		if kept.seen == Missing && !isLatest && !it.clock.promises(it.chain[at+1].body.Epoch, now) {
-			epochs = append(epochs, kept.body.Epoch)
+	present, promise := it.clock.present(it.clock.read()), it.clock.promise()
+	return it.missing(func(place int) bool { return it.memory.isLost(present, promise, place) })
+}
+
+// missing returns the missing epochs at some places.
+func (it *Client) missing(isWanted func(place int) bool) (epochs []uint64) {
+	for place := 0; place < int(it.memory.count); place++ {
+		if Watched(it.memory.kept[place].seen) == Missing && isWanted(place) {
+			epochs = append(epochs, it.memory.epochAt(place))
 		}
 	}
 	return epochs
+}
+
+// Alarms returns the alarms of dropped epochs, until their owner takes note of them.
+func (it *Client) Alarms() []Alarm {
+	it.mutex.Lock()
+	defer it.mutex.Unlock()
+	var alarms []Alarm
+	for _, one := range it.memory.alarms[:it.memory.alarmCount] {
+		alarms = append(alarms, Alarm{uint64(one.epoch), Watched(one.seen)})
+	}
+	return alarms
+}
+
+// Note takes note of the alarms up to an epoch, which the owner has seen: they are dropped.
+func (it *Client) Note(epoch uint64) {
+	it.mutex.Lock()
+	defer it.mutex.Unlock()
+	it.memory.note(epoch)
+}
+
+// Report returns what to tell the owner of the watched name, or an error if none is watched. Without Trust in the Settings it is never
+// ReportGood.
+func (it *Client) Report() (Report, error) {
+	it.mutex.Lock()
+	defer it.mutex.Unlock()
+	status, report := it.memory.report(it.clock.present(it.clock.read()), it.clock.promise(), it.quorum)
+	if err := it.misuse(status, ""); err != nil {
+		return Report{}, err
+	}
+	return Report{Verdict(report.verdict), uint64(report.from), uint64(report.to)}, nil
+}
+
+// Mark compares a head that an auditor cosigned, as Compare does, and remembers its epoch if they are equal. The auditor is the one at
+// this place of the trust document, from 0 on. Verify the cosignature first. It returns an error if there is no such auditor.
+func (it *Client) Mark(auditor int, head coniks.Head) (Comparison, error) {
+	it.mutex.Lock()
+	defer it.mutex.Unlock()
+	found := it.memory.markHead(auditor, head)
+	if found == noAuditor {
+		return 0, it.misuse(found, "")
+	}
+	return Comparison(found), nil
+}
+
+// Confirmed returns the latest epoch that a quorum of the auditors confirms, and whether there is one.
+func (it *Client) Confirmed() (epoch uint64, isThere bool) {
+	it.mutex.Lock()
+	defer it.mutex.Unlock()
+	status, found := it.memory.confirmed(it.quorum)
+	return uint64(found), status == 0
+}
+
+// IsRelied returns whether a quorum of the auditors confirms a kept epoch, for example that of what was found. It returns a *Refusal
+// if the epoch is not kept.
+func (it *Client) IsRelied(epoch uint64) (bool, error) {
+	it.mutex.Lock()
+	defer it.mutex.Unlock()
+	place := sort.Search(int(it.memory.count), func(at int) bool { return it.memory.epochAt(at) >= epoch })
+	if place == int(it.memory.count) || it.memory.epochAt(place) != epoch {
+		return false, refusal(UnknownEpoch)
+	}
+	return it.memory.relied(place, it.quorum) == 0, nil
+}
+
+// Drop drops the first epochs: those before the confirmed one, and before the first missing one that is not lost. It returns them. Each
+// watched one that was not seen as the same leaves an alarm. No reply for a dropped epoch is accepted: ask for missing ones first.
+func (it *Client) Drop() []uint64 {
+	it.mutex.Lock()
+	defer it.mutex.Unlock()
+	return it.drop(it.memory.marks, it.quorum)
+}
+
+func (it *Client) drop(marks []C.uint64_t, quorum int) []uint64 {
+	epochs := make([]uint64, int(it.memory.count))
+	for place := range epochs {
+		epochs[place] = it.memory.epochAt(place)
+	}
+	return epochs[:it.memory.cover(it.clock.present(it.clock.read()), it.clock.promise(), marks, quorum)]
 }

@@ -18,7 +18,7 @@ import (
 // examples are those of docs/FORMATS.md: alice is registered with the key `k` at epoch 1, and bob at epoch 2. Watch is the end of the
 // second state.
 type examples struct {
-	Policy, Signing, VRF, Reply, History, State, Watch string
+	Policy, Signing, VRF, Reply, History, State, Trust string
 	Entries                                            []string
 }
 

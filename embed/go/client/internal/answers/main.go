@@ -22,6 +22,8 @@ var errMisuse = errors.New("a call that the caller must not make")
 type program struct {
 	client *client.Client
 	now    time.Time
+	// The trust document that the next client names.
+	trust *client.Trust
 }
 
 // data reads bytes, nil for `-`.
@@ -66,11 +68,12 @@ func headOf(epoch, link string) (head coniks.Head, err error) {
 
 // settings reads the first six words of `begin` and `vouched`, and sets the clock.
 func (it *program) settings(words []string) (client.Settings, error) {
-	it.client, it.now = nil, time.Unix(int64(number(words[0])), 0)
+	trust := it.trust
+	it.client, it.now, it.trust = nil, time.Unix(int64(number(words[0])), 0), nil
 	policy, err := coniks.ReadPolicy(data(words[5]))
 	return client.Settings{
 		MaxAge: seconds(words[1]), Skew: seconds(words[2]), SigningKey: data(words[3]), VRFKey: data(words[4]), Policy: &policy,
-		Clock: func() time.Time { return it.now },
+		Clock: func() time.Time { return it.now }, Trust: trust,
 	}, err
 }
 
@@ -229,6 +232,41 @@ func refused(err error) string {
 	return fmt.Sprintf("refused %v %s %s", it.Cause, status, evidenceWords(it.Evidence))
 }
 
+// setTrust reads the trust document of the next client.
+func (it *program) setTrust(words []string) {
+	it.trust = &client.Trust{Auditors: uint32(number(words[1])), Faulty: uint32(number(words[2]))}
+	copy(it.trust.Digest[:], data(words[0]))
+}
+
+func (it *program) mark(words []string) (string, error) {
+	head, err := headOf(words[1], words[2])
+	if err != nil {
+		return "", err
+	}
+	found, err := it.client.Mark(int(number(words[0])), head)
+	return found.String(), err
+}
+
+func (it *program) confirmed() string {
+	if epoch, isThere := it.client.Confirmed(); isThere {
+		return fmt.Sprintf("confirmed %d", epoch)
+	}
+	return "confirmed -"
+}
+
+func (it *program) alarms() string {
+	text := "alarms"
+	for _, alarm := range it.client.Alarms() {
+		text += fmt.Sprintf(" %d:%v", alarm.Epoch, alarm.Seen)
+	}
+	return text
+}
+
+func (it *program) report() (string, error) {
+	report, err := it.client.Report()
+	return fmt.Sprintf("report %v %d %d", report.Verdict, report.First, report.Last), err
+}
+
 // answer makes the call of a request.
 func (it *program) answer(word string, words []string) (string, error) {
 	switch word {
@@ -266,6 +304,22 @@ func (it *program) answer(word string, words []string) (string, error) {
 		return "evidence " + evidenceWords(evidence), err
 	case "state":
 		return fmt.Sprintf("state %x", it.client.State()), nil
+	case "trust":
+		it.setTrust(words)
+		return "set", nil
+	case "mark":
+		return it.mark(words)
+	case "confirmed":
+		return it.confirmed(), nil
+	case "drop":
+		return epochWords("dropped", it.client.Drop()), nil
+	case "note":
+		it.client.Note(number(words[0]))
+		return it.alarms(), nil
+	case "alarms":
+		return it.alarms(), nil
+	case "report":
+		return it.report()
 	}
 	return "", errMisuse
 }
