@@ -198,6 +198,8 @@ class Rate:
     def __init__(self, a_second: float, clock: Callable[[], float] = time.monotonic):
         self._a_second, self._most, self._clock = a_second, a_second * _WINDOW, clock
         self._window, self._counts = 0.0, Counter[str]()
+        # When the last request of a network has its turn.
+        self._turns = dict[str, float]()
 
     def count(self, address: str) -> float:
         """Counts a request. Returns in how many seconds it has its turn. Raises `Problem` if it is one too many."""
@@ -206,7 +208,8 @@ class Rate:
         self._counts[network] += 1
         if self._counts[network] > self._most:
             raise Problem(429, "TooOften", "too many requests from this address", _WINDOW - past)
-        return max(0, (self._counts[network] - _BURST) / self._a_second - past)
+        self._turns[network] = max(self._turns.get(network, 0), self._idle()) + 1 / self._a_second
+        return max(0, self._turns[network] - self._clock())
 
     def note(self, address: str) -> None:
         """Counts a request that is refused in any case."""
@@ -223,7 +226,12 @@ class Rate:
         window, past = divmod(self._clock(), _WINDOW)
         if window != self._window:
             self._window, self._counts = window, Counter()
+            self._turns = {network: turn for network, turn in self._turns.items() if turn > self._idle()}
         return past
+
+    def _idle(self) -> float:
+        """When the last turn was of a network that has all its requests at once again."""
+        return self._clock() - _BURST / self._a_second
 
 
 def network_of(address: str) -> str:

@@ -278,7 +278,7 @@ def test_rates() -> None:
 
 
 def test_turns() -> None:
-    """Sixteen requests of an address are worked on at once, and the others at its rate."""
+    """Sixteen requests of an address are worked on at once, and the others at its rate, whenever they come."""
     import connections
 
     now = [8.0]
@@ -287,8 +287,14 @@ def test_turns() -> None:
     assert rate.count("192.0.2.2") == 0
     now[0] = 8.5
     assert [rate.count("192.0.2.1") for _ in range(4)] == pytest.approx([0, 0, 0, 0.1])
+    # At the end of the four seconds, and at the begin of the next ones.
+    now[0] = 11.9
+    assert [rate.count("192.0.2.1") for _ in range(18)] == pytest.approx([*[0] * 16, 0.1, 0.2])
     now[0] = 12
-    assert rate.count("192.0.2.1") == 0
+    assert [rate.count("192.0.2.1") for _ in range(2)] == pytest.approx([0.2, 0.3])
+    # What it had to wait for is over.
+    now[0] = 16
+    assert rate.count("192.0.2.2") == 0 and [*rate._turns] == ["192.0.2.2"]
 
 
 def test_epochs_that_are_forgotten_meanwhile(packages: None) -> None:
