@@ -20,7 +20,7 @@ from coniks.replica import Replica
 
 Call = Callable[[], object]
 # Seconds that a call waits for PostgreSQL, and in which each call must end while PostgreSQL answers nothing.
-PATIENCE, ENDS = 1, 6
+PATIENCE, ENDS = 4, 9
 
 
 class Cluster(ExitStack):

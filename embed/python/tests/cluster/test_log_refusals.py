@@ -250,7 +250,7 @@ def test_refusals(database: Database) -> None:
     """Errors of PostgreSQL at an append, which a constraint raises with a chosen state."""
     for query in FAILING:
         database.execute(query)
-    log, hasty = PostgresLog(database.conninfo, "t"), PostgresLog(database.conninfo, "t", patience=0.5)
+    log, hasty = PostgresLog(database.conninfo, "t"), PostgresLog(database.conninfo, "t", patience=2)
     for code in CERTAIN:
         fail(database, code)
         says(f"refusals: {code} is certain", LogRefused, lambda: log.append(0, b"hunter2"), code, "isn't stored")
@@ -308,7 +308,7 @@ def check_full_disk(database: Database, folder: Path) -> None:
 
 
 def test_locks(database: Database) -> None:
-    log = PostgresLog.create(database.conninfo, "t", patience=2)
+    log = PostgresLog.create(database.conninfo, "t", patience=4)
     with psycopg.connect(database.conninfo) as other:
         other.execute("LOCK TABLE t")
         says(
@@ -317,18 +317,18 @@ def test_locks(database: Database) -> None:
             lambda: log.append(0, b"hunter2"),
             "55P03",
             "pg_locks",
-            seconds=5,
+            seconds=8,
         )
-        says("locks: a read of a locked table", LogFailed, lambda: [*log.read(0)], "55P03", seconds=5)
+        says("locks: a read of a locked table", LogFailed, lambda: [*log.read(0)], "55P03", seconds=8)
         other.rollback()
         other.execute("INSERT INTO t VALUES (0, 'zero', '')")
-        says("locks: another one appends", LogRefused, lambda: log.append(0, b"hunter2"), "55P03", seconds=5)
+        says("locks: another one appends", LogRefused, lambda: log.append(0, b"hunter2"), "55P03", seconds=8)
         with lost(log, lambda *_: None):
-            says("locks: a try that may be stored has it", LogFailed, lambda: log.append(0, b""), "55P03", "or not", seconds=5)
+            says("locks: a try that may be stored has it", LogFailed, lambda: log.append(0, b""), "55P03", "or not", seconds=8)
         other.rollback()
-        with PostgresLog.create(database.conninfo, "u", patience=2) as patient, lost(patient, lambda *_: None):
+        with PostgresLog.create(database.conninfo, "u", patience=6) as patient, lost(patient, lambda *_: None):
             other.execute("INSERT INTO u VALUES (0, 'zero', '')")
-            ending = threading.Timer(1.3, other.rollback)
+            ending = threading.Timer(3.5, other.rollback)
             ending.start()
             patient.append(0, b"mine")
             ending.join()

@@ -158,6 +158,7 @@ def check_waits(database: Database, mine: PostgresLog, other: PostgresLog) -> No
         lambda: mine.append(106, b"hunter2"),
         "isn't stored",
         "connection to server",
+        seconds=8,
     )
     raises("log: a read without PostgreSQL", LogFailed, lambda: [*mine.read(0)])
     raises("log: a wait without PostgreSQL", LogFailed, lambda: mine.wait(0, 1))
@@ -230,7 +231,7 @@ def check_signal(database: Database, log: PostgresLog) -> None:
 def test_calls(database: Database) -> None:
     """Appends, reads and waits of two logs over one table."""
     database.execute("CREATE SCHEMA several")
-    mine, other = (PostgresLog(database.conninfo, patience=it) for it in (1, 60))
+    mine, other = (PostgresLog(database.conninfo, patience=it) for it in (3, 60))
     with mine, other, PostgresLog(database.conninfo, "several.third") as third:
         check_appends(mine, other, third)
         check_waits(database, mine, other)

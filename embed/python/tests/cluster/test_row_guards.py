@@ -47,6 +47,8 @@ TABLES = [
     ),
 ]
 SESSIONS = "SELECT count(*) FROM pg_stat_activity WHERE application_name = 'coniks_guard'"
+# Seconds that a call waits for PostgreSQL, and in which it must end while PostgreSQL doesn't answer.
+HASTY, ENDS = 3, 6
 
 
 class Row(ExitStack):
@@ -305,7 +307,7 @@ def test_standby(database: Database) -> None:
         for what in ("cancel", "terminate"):
             database.execute(waits.replace("count(*)", f"pg_{what}_backend(pid)"))
             assert soon(lambda: database.execute(waits) == [(1,)]) and row.used() == 1, f"row: a wait that is ended by {what}"
-        says("row: the other guard waits too", RecordFailed, lambda: row.open(patience=1)(mine), seconds=5)
+        says("row: the other guard waits too", RecordFailed, lambda: row.open(patience=HASTY)(mine), seconds=2 * ENDS)
         assert not given and row.used() == 1, "row: nothing is given out meanwhile"
         database.execute("ALTER SYSTEM RESET synchronous_standby_names;")
         database.execute("SELECT pg_reload_conf()")
@@ -315,29 +317,33 @@ def test_standby(database: Database) -> None:
 
 def test_stop(database: Database) -> None:
     """The server is stopped, killed and started again. Each call ends."""
-    with Row(database, "stop", patience=1) as row:
+    with Row(database, "stop", patience=HASTY) as row:
         mine = after(row.last)
         waiting, patient = row.open(patience=60), row.open(patience=60)
         database.stop()
-        ends = threading.Thread(target=says, args=("row: a call under way", RecordFailed, lambda: waiting(mine), "closed"))
+        ends = threading.Thread(
+            target=says,
+            args=("row: a call under way", RecordFailed, lambda: waiting(mine), "closed"),
+            kwargs={"seconds": 40},
+        )
         ends.start()
         calls: list[tuple[str, Callable[[], object]]] = [
             ("a body", lambda: row.guard(mine)),
             ("an abandoned body", lambda: row.guard.abandon(mine)),
             ("the signed entry", row.guard.signed),
-            ("an opening", lambda: row.open(patience=1)),
+            ("an opening", lambda: row.open(patience=HASTY)),
         ]
         try:
             for what, call in calls:
-                says(f"row: a stopped server: {what}", RecordFailed, call, "in time", seconds=3)
+                says(f"row: a stopped server: {what}", RecordFailed, call, "in time", seconds=ENDS)
             waiting.close()
-            ends.join(3)
+            ends.join(20)
             assert not ends.is_alive() and row.used() == 1, "row: a close ends the call"
         finally:
             database.go_on()
         database.kill()
         for what, call in calls:
-            says(f"row: a killed server: {what}", RecordFailed, call, "connection to server", seconds=3)
+            says(f"row: a killed server: {what}", RecordFailed, call, "connection to server", seconds=ENDS)
         signing = threading.Thread(target=row.sign, args=(mine, patient))
         signing.start()
         time.sleep(0.5)
