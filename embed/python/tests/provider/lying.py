@@ -87,10 +87,14 @@ def salts(answer: Answer) -> None:
         answer["nonce"] = "00" * 32
 
 
+# The seconds that a slow restore takes.
+SLOW = 4
+
+
 def waits(answer: Answer) -> None:
-    """A restore that takes a second."""
+    """A restore that takes some seconds."""
     if answer.get("ok") == "restored":
-        time.sleep(1)
+        time.sleep(SLOW)
 
 
 def knows_none(answer: Answer) -> None:

@@ -16,6 +16,7 @@ from unittest import mock
 import pytest
 
 from stand_ins import HERE, POLICY, Salted, Signer, audited, children_of, kill_child, opened, shown
+from lying import SLOW
 from raising import raises
 from snapshots import Stage, fill, refused, seen, staged
 from coniks import _engine, provider
@@ -521,10 +522,11 @@ def test_slow(program: str) -> None:
         it.program = [sys.executable, str(HERE / "lying.py"), "slow", program]
         it.close()
         it.log = FileLog(it.path)
-        assert it.start(timeout=0.7).latest().names == 4200, "slow: a start"
+        # It may take more than one, and less than two.
+        assert it.start(timeout=0.95 * SLOW).latest().names == 4200, "slow: a start"
         it.close()
         it.log = FileLog(it.path)
-        raises("slow: too slow", ProgramFailed, lambda: it.start(timeout=0.45))
+        raises("slow: too slow", ProgramFailed, lambda: it.start(timeout=0.45 * SLOW))
 
 
 def test_refused_lines(program: str) -> None:
