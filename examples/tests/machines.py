@@ -60,7 +60,7 @@ class Machine:
         words = [it for it in WORDS if not network or it != "--net"]
         self._process = subprocess.Popen([*within, *words, "sh", "-euc", BEGIN, "machine", *places])
         children = Path(f"/proc/{self._process.pid}/task/{self._process.pid}/children")
-        until = time.monotonic() + 30
+        until = time.monotonic() + 60
         self._pid: str = ""
         while not (self._pid and Path(f"/proc/{self._pid}/root/run/begun").exists()):
             assert time.monotonic() < until and self._process.poll() is None, "the machine did not begin"

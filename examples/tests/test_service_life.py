@@ -378,21 +378,23 @@ def test_killed_child(program: str, tmp_path: Path, caplog: pytest.LogCaptureFix
     caplog.set_level("INFO")
     with made(program, tmp_path) as holder:
 
+        def said() -> list[Any]:
+            return [vars(it)["members"]["pids"] for it in caplog.records if it.getMessage() == "children"]
+
         async def story() -> int:
             running = asyncio.create_task(collector_of(holder).run())
             before = holder.provider.pid
-            await asyncio.sleep(0.5)
-            os.kill(before, signal.SIGKILL)
-            while holder.provider.pid == before:
+            while said() != [[before]]:
                 await asyncio.sleep(0.1)
-            await asyncio.sleep(1)
+            os.kill(before, signal.SIGKILL)
+            while not said()[-1] == [holder.provider.pid] != [before]:
+                await asyncio.sleep(0.1)
             running.cancel()
             await asyncio.gather(running, return_exceptions=True)
             return int(before)
 
-        killed = asyncio.run(story())
-        lines = [vars(it)["members"] for it in caplog.records if it.getMessage() == "children"]
-        assert lines[0]["pids"] == [killed] and lines[-1]["pids"] == [holder.provider.pid] != [killed]
+        killed = asyncio.run(asyncio.wait_for(story(), 60))
+        assert said()[0] == [killed] and said()[-1] == [holder.provider.pid] != [killed]
 
 
 @pytest.mark.parametrize(

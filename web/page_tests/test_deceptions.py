@@ -82,7 +82,7 @@ def saved_by(browser: Browser, link: str, file: Path) -> str:
     """What a link saves as a file."""
     browser.call("Page.setDownloadBehavior", behavior="allow", downloadPath=str(file.parent))
     browser.value(f"document.querySelector('{link}').click(); 1")
-    until = time.monotonic() + 20
+    until = time.monotonic() + 60
     # The browser makes the file before it has the bytes.
     while time.monotonic() < until and not (file.is_file() and file.stat().st_size):
         time.sleep(0.05)
