@@ -170,9 +170,13 @@ class Listening:
     def _begin(self, listening: socket.socket) -> None:
         if listening.fileno() >= 0:
             listening.setblocking(False)
-            self._loop.add_reader(listening, self._take, listening)
+            # A connection that ended before another one came is noted first.
+            self._loop.add_reader(listening, self._loop.call_soon, self._take, listening)
 
     def _take(self, listening: socket.socket) -> None:
+        if listening.fileno() < 0:
+            # It was closed in this turn of the loop.
+            return
         for _ in range(_AT_ONCE):
             try:
                 taken, address = listening.accept()

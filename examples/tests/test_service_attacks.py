@@ -118,7 +118,7 @@ def test_idle_connections(service: Running) -> None:
 
 
 def test_one_connection_too_many(other: Running) -> None:
-    """A connection beyond the limit is reset at once, while the others stay."""
+    """A connection beyond the limit is reset at once, while the others stay. One that has ended leaves room at once."""
     other.start("--connections", "50", "--patience", "600")
     with ExitStack() as opened:
         kept = [opened.enter_context(connected(other)) for _ in range(50)]
@@ -128,6 +128,8 @@ def test_one_connection_too_many(other: Running) -> None:
         assert not is_served(other) and not select.select(kept, [], [], 0)[0]
         kept[0].close()
         until(lambda: is_served(other))
+        # One after another, each as soon as that before has ended.
+        assert {other.ask("/healthz").status for _ in range(50)} == {200}
 
 
 def test_connections_of_one_address(other: Running) -> None:
@@ -141,7 +143,8 @@ def test_connections_of_one_address(other: Running) -> None:
         assert is_served(other) and not select.select(kept, [], [], 0)[0]
         kept[0].close()
         until(lambda: b"200 OK" in answered(other, "127.0.0.2", GET + b"\r\n"))
-        for _ in range(380):
+        # Others take all that are left.
+        for _ in range(400 - len(kept[1:])):
             opened.enter_context(connected(other))
         until(lambda: not is_served(other))
 
