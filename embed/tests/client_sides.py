@@ -123,7 +123,9 @@ REQUESTS: dict[str, Callable[[Answer], list[str]]] = {
     "cover": lambda it: ["cover", number(it["epoch"]), word(it["link"])] if "link" in it else ["drop"],
     "mark": lambda it: ["mark", number(it["auditor"]), number(it["epoch"]), word(it["link"])],
     "note": lambda it: ["note", number(it["epoch"])],
-    **{name: lambda it: [it["do"]] for name in ("confirmed", "alarms", "report")},
+    "confirmed": lambda it: ["confirmed"],
+    "alarms": lambda it: ["alarms"],
+    "report": lambda it: ["report"],
     "evidence": lambda it: ["evidence", word(it["entry"])],
     "head": lambda it: ["head"],
     "missing": lambda it: ["missing"],
@@ -199,9 +201,9 @@ def core_answer_of(do: str, first: str, rest: Sequence[str]) -> Answer:
     if do in ("alarms", "note") and first == "alarms":
         return {"alarms": [[epoch, "lost" if seen == "missing" else seen] for epoch, seen in fed(rest)]}
     if do == "report" and first == "report":
-        first_epoch, last_epoch = map(int, rest[1:])
-        epochs = {"unwatched": [], "unconfirmed": [first_epoch, last_epoch], "good": [first_epoch, last_epoch]}
-        return {"report": [rest[0], *epochs.get(rest[0], [first_epoch])]}
+        # Of `unwatched` there is no epoch, of these two the first and the last one, else one.
+        epochs = {"unwatched": 0, "unconfirmed": 2, "good": 2}.get(rest[0], 1)
+        return {"report": [rest[0], *map(int, rest[1 : 1 + epochs])]}
     raise Broken(f"{do}: {first} {' '.join(rest)[:200]}")
 
 

@@ -56,9 +56,7 @@ def test_example(here: Path, tmp_path: Path) -> None:
     go(here, "build", "-o", str(program), "./example")
     wanted = json.loads((data / "messages.json").read_text("utf-8"))
     page = "".join((TOP / "docs/FORMATS.md").read_text("utf-8").split())
-    assert all(
-        wanted[it] in page for it in ("reply", "history", "state")
-    ), "messages.json has the examples of docs/FORMATS.md"
+    assert all(wanted[it] in page for it in ("reply", "history", "state")), "messages.json has the examples of docs/FORMATS.md"
     vectors = (TOP / "examples/provider/vectors.json", here / "go/client/testdata/vectors.json")
     assert vectors[0].read_bytes() == vectors[1].read_bytes()
     files = {it: tmp_path / f"{it}.bytes" for it in ("catch-up", "later", "reply", "other")}

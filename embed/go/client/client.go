@@ -92,11 +92,14 @@ func New(settings Settings) (*Client, error) {
 	if it.clock, err = newClock(settings); err != nil {
 		return nil, err
 	}
-	return it, it.name(settings.Trust)
+	if err := it.trustIn(settings.Trust); err != nil {
+		return nil, err
+	}
+	return it, nil
 }
 
-// name takes the trust document, and makes a mark for each of its auditors.
-func (it *Client) name(trust *Trust) error {
+// trustIn takes the trust document, and makes a mark for each of its auditors.
+func (it *Client) trustIn(trust *Trust) error {
 	if trust == nil {
 		return nil
 	}

@@ -203,7 +203,8 @@ func (it *memory) feed(policy *[32]byte, entry []byte, verdict C.uint32_t, now u
 	return status, why
 }
 
-func (it *memory) begin(policy *[32]byte, heads []coniks.Head, least int, entry []byte, verdict C.uint32_t, now uint64) (status C.uint32_t, why C.coniks_why) {
+func (it *memory) begin(policy *[32]byte, heads []coniks.Head, least int, entry []byte, verdict C.uint32_t,
+	now uint64) (status C.uint32_t, why C.coniks_why) {
 	var in arena
 	defer in.free()
 	it.reserve(1)
@@ -233,7 +234,8 @@ func (it *memory) replyNeeds(reply []byte) (status C.uint32_t, needs C.coniks_ne
 	return status, needs
 }
 
-func (it *memory) lookup(policy *[32]byte, present C.coniks_present, name string, reply []byte, epoch *uint64, verdicts C.coniks_verdicts) (status C.uint32_t, found C.coniks_found, why C.coniks_why) {
+func (it *memory) lookup(policy *[32]byte, present C.coniks_present, name string, reply []byte, epoch *uint64,
+	verdicts C.coniks_verdicts) (status C.uint32_t, found C.coniks_found, why C.coniks_why) {
 	var in arena
 	defer in.free()
 	watch, changes := it.watched(&in, 0)
