@@ -100,6 +100,10 @@ OF_CLIENTS = [
 OF_SIDES = ["include/coniks.h", "include/coniks_core.h", "embed/texts.json", "embed/sample", "embed/proof_bytes.py"]
 OF_SIDES += [f"embed/tests/{it}.py" for it in ("conftest", "messages", "model", "running", "samples", "sides")]
 
+OF_CLIENT_IN_PYTHON = [
+    *package("client", "_core", "_memory", "_verdicts", "_messages", "_replies", "_ecvrf", "policy"),
+    "include/coniks_core.h",
+]
 OF_CONTACTS = package("contacts", "_person", "_own_names", "_confirming", "_telling", "commands", "trust")
 
 PYTHON = [
@@ -217,13 +221,19 @@ PYTHON = [
     ),
     Part(
         "the client in Python",
-        [*package("client", "_messages", "_replies", "_watch", "_ecvrf", "policy"), *tests("client", "*"), *OF_CLIENTS],
-        tests("client", "test_cases", "test_hostile", "test_broken_off", "test_service"),
+        [*OF_CLIENT_IN_PYTHON, *tests("client", "*"), *OF_CLIENTS],
+        tests("client", "test_cases", "test_hostile", "test_auditors", "test_memory", "test_verdicts", "test_service"),
+        library=True,
+    ),
+    Part(
+        "interrupts of the client in Python",
+        [*OF_CLIENT_IN_PYTHON, *tests("client", "made")],
+        tests("client", "test_broken_off"),
         library=True,
     ),
     Part(
         "alterations, walks and all short histories of the client in Python",
-        [*package("client", "_messages", "_replies", "_watch", "_ecvrf", "policy"), *tests("client", "*"), *OF_CLIENTS],
+        [*OF_CLIENT_IN_PYTHON, *tests("client", "*"), *OF_CLIENTS],
         tests("client", "test_alterations", "test_walks", "test_search", "test_alarm_worlds", "test_alarm_walks"),
         library=True,
     ),
@@ -327,7 +337,7 @@ LANGUAGES = [
     ),
     Part(
         "the core in all that can happen",
-        ["include/coniks_core.h", "embed/c/core_worlds.c"],
+        ["include/coniks_core.h", "embed/c/core_worlds.c", *package("_core")],
         ["embed/tests/test_core_worlds.py", "embed/tests/test_core_header.py"],
         library=True,
     ),

@@ -16,7 +16,7 @@ import core_client
 from alterations import Alterer
 from case_runner import Answer, cases
 from running import EMBED, Say, compiled, run
-from walks import Walk, state_of
+from walks import Walk
 
 CASES = [it for it in cases() if it["name"] != core_client.SIGNED_AGAIN]
 
@@ -75,6 +75,15 @@ def test_walks(pytestconfig: pytest.Config, say: Say) -> None:
     calls = core_client.CALLS - before
     say(f"{count} walks: calls of the core: {dict(sorted(calls.items()))}")
     assert {"feed", "lookup", "watch", "expect", "compare"} <= {*calls}
+
+
+def state_of(case: Answer) -> bytes:
+    """The state of version 02 of a client at the end of a case."""
+    client, now = second.begun(case), case["now"]
+    for step in case["steps"]:
+        now = step.get("now", now)
+        second.told(lambda: second.stepped(client, step, now))
+    return client.state
 
 
 def test_stack(tmp_path: Path, say: Say) -> None:

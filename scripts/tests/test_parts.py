@@ -81,7 +81,7 @@ CHANGES = {
     "embed/python/src/coniks/log.py": "the log",
     "embed/python/src/coniks/_host.py": "what a provider does",
     "embed/python/src/coniks/replica.py": "replicas",
-    "embed/python/src/coniks/_watch.py": "the client in Python",
+    "embed/python/src/coniks/_memory.py": "the client in Python",
     "embed/go/guard.go": "the package in Go",
     "embed/go/client/watch.go": "cases of the client in Go",
     "embed/rust/src/client/memory.rs": "cases of the client in Rust",

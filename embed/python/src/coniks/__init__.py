@@ -32,7 +32,7 @@ import os
 import re
 from dataclasses import dataclass
 from pathlib import Path
-from typing import Any, Mapping, Optional, Union
+from typing import Any, Mapping, Optional, Sequence, Union
 
 from .policy import Policy
 
@@ -173,7 +173,8 @@ def _place() -> str:
 _run = [ctypes.c_char_p, ctypes.c_size_t]
 _32 = ctypes.POINTER(_Bytes32)
 _size = ctypes.POINTER(ctypes.c_size_t)
-_exports: list[tuple[str, Any, list[Any]]] = [
+_Exports = Sequence[tuple[str, Any, list[Any]]]
+_exports: _Exports = [
     ("coniks_check", ctypes.c_uint32, [_32, _32, _32, *_run, *_run, _size, _size]),
     ("coniks_auditor_begin", None, [ctypes.POINTER(_State)]),
     ("coniks_auditor_feed", ctypes.c_uint32, [ctypes.POINTER(_State), *_run, ctypes.c_uint32]),
@@ -188,8 +189,8 @@ _exports: list[tuple[str, Any, list[Any]]] = [
 ]
 
 
-def _load() -> dict[str, Any]:
-    """The exports of the library. Raises ImportError if it can't be loaded, or is of another version than this package."""
+def _load(exports: _Exports) -> dict[str, Any]:
+    """Exports of the library. Raises ImportError if it can't be loaded, or is of another version than this package."""
     place, calls = _place(), {}
     try:
         library = ctypes.CDLL(place)
@@ -199,7 +200,7 @@ def _load() -> dict[str, Any]:
         version = _version_text(library.coniks_version())
         if version != __version__:
             raise ImportError(f"the library {place} has version {version}, and this package has version {__version__}")
-        for export, result, arguments in _exports:
+        for export, result, arguments in exports:
             calls[export] = getattr(library, export)
             calls[export].restype, calls[export].argtypes = result, arguments
     except AttributeError as error:
@@ -212,17 +213,20 @@ def _version_text(number: int) -> str:
 
 
 class _Library:
-    """The exports of the shared library, which is loaded when the first of them is taken."""
+    """Exports of the shared library, which is loaded when the first of them is taken."""
+
+    def __init__(self, exports: _Exports):
+        self._exports = exports
 
     def __getattr__(self, name: str) -> Any:
-        calls = _load()
+        calls = _load(self._exports)
         vars(self).update(calls)
         if name not in calls:
             raise AttributeError(name)
         return calls[name]
 
 
-_library = _Library()
+_library = _Library(_exports)
 
 
 def _bytes(value: Any, what: str) -> bytes:

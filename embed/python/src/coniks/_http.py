@@ -13,8 +13,7 @@ from typing import Iterator, Mapping, Optional
 from urllib.parse import urlsplit
 
 from . import BODY_LENGTH, ENTRY_LENGTH
-from ._messages import catch_up_entries
-from .client import Client
+from .client import Client, entries_of
 from .notes import SKEW
 from .policy import Policy
 
@@ -107,7 +106,7 @@ def new_entries(client: Client, source: str, is_whole: bool = False) -> Iterator
     known, latest = {it[:BODY_LENGTH] for it in client.entries}, (client.entries or [bytes(ENTRY_LENGTH)])[-1]
     start = after = 0 if is_whole else int.from_bytes(latest[9:17], "big")
     pages, until = 0, time.monotonic() + LONGEST
-    while page := catch_up_entries(fetched(f"{source}/v1/entries?after={after}")):
+    while page := entries_of(fetched(f"{source}/v1/entries?after={after}")):
         if pages and (pages >= PAGES or time.monotonic() > until):
             raise Unusable(f"{source} has more entries than are taken at once: the next run goes on")
         pages += 1

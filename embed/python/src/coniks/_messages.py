@@ -1,5 +1,5 @@
-"""Replies, catch-ups and histories: the bytes that a provider's service sends to clients, read and made. docs/FORMATS.md defines
-them. Also what a client refuses, by cause."""
+"""Replies and histories: the bytes that a provider's service sends to clients, made, and read by those who keep their parts.
+docs/FORMATS.md defines them. Also what a client refuses, by cause."""
 
 from __future__ import annotations
 
@@ -8,6 +8,7 @@ from dataclasses import dataclass
 from typing import Any, Iterable, Iterator, Optional, Sequence, Tuple
 
 from . import ENTRY_LENGTH, EvidenceKind, Status, _bytes, text
+from ._core import Misuse
 
 VERSION = b"\x01"
 NOT_SENT = 3
@@ -104,8 +105,8 @@ TEXTS = {
     Cause.STALE: "the latest epoch is too old by the policy's clock: feed a catch-up, or alarm",
     Cause.FUTURE: "the latest epoch has not begun by the policy's clock: see whether the clock is right, or alarm",
     Cause.VRF_PROOF: f"the VRF proof is not one of this name: {_LINE}",
-    Cause.STATE_LENGTH: f"a state has at least 70 bytes: {_STATE}",
-    Cause.STATE_VERSION: "the state has another version than 2: take the package that wrote it, or start anew with an auditor's head",
+    Cause.STATE_LENGTH: f"a state has at least 110 bytes: {_STATE}",
+    Cause.STATE_VERSION: "the state has another version than 3: take the package that wrote it, or start anew with an auditor's head",
     Cause.STATE_DAMAGED: f"the state was changed: {_STATE}",
     Cause.STATE_POLICY: "the state is that of another directory: take the one of this policy",
     Cause.STATE_FORM: f"the state is not one of docs/FORMATS.md: {_STATE}",
@@ -115,6 +116,23 @@ TEXTS = {
     Cause.SIGNING_KEY: "the signing key is no point of prime order: take the one of the policy document",
     Cause.VRF_KEY: "the VRF's key is no point of prime order: take the one of the policy document",
     Cause.POLICY_KEYS: "the keys are not those of the policy: take both from its document",
+}
+# What the caller of a client must not do.
+MISUSES = {
+    Misuse.NAME: "a name has 1 to 255 bytes, not {length}",
+    Misuse.EXPECTED_KEY: "an expected key has fewer than 2^32 bytes",
+    Misuse.OTHER_WATCH: "this client watches another name or key: use `expect`, or make another client",
+    Misuse.NOT_WATCHING: "no name is watched: call `watch` first",
+    Misuse.CHANGE_OPEN: "another change is expected by epoch {last}: expect the next one after it",
+    Misuse.SAME_KEY: "the new key is the one that is expected already",
+    Misuse.NOT_LATER: "epoch {latest} is in the chain: expect the new key by a later one",
+    Misuse.NO_ROOM: "the client's memory was changed during the call: use a client in one thread at a time",
+    Misuse.NO_AUDITOR: "the trust document has no such auditor",
+    Misuse.NOT_CONFIRMED: "no quorum of the auditors confirms this",
+    Misuse.HAS_ENTRIES: "a client that has an entry can't start late",
+    Misuse.NO_QUORUM: "at least one auditor vouches for an entry",
+    Misuse.MANY_HEADS: "at most 64 auditors vouch for an entry",
+    Misuse.NO_STATE: "a state has room for fewer than 2^32 epochs, changes, alarms and marks",
 }
 
 
@@ -198,13 +216,6 @@ class Reply:
 
     def __bytes__(self) -> bytes:
         return VERSION + self.entry + sized(self.vrf, 2) + self.proof
-
-
-def catch_up_entries(whole: bytes) -> list[bytes]:
-    """The entries of a catch-up. Raises `Refusal` for another number of bytes."""
-    if len(whole) % ENTRY_LENGTH:
-        raise Refusal(Cause.CATCH_UP_LENGTH)
-    return [whole[at : at + ENTRY_LENGTH] for at in range(0, len(whole), ENTRY_LENGTH)]
 
 
 @dataclass(frozen=True)

@@ -13,39 +13,47 @@ is never an alarm. What convicts the provider is the error's `evidence`: publish
     client.missing                                          # the epochs that no reply was accepted for
     client.lost                                             # those of them that can no longer be verified
     client.expect(new_key, by=epoch)                        # before I change my key
+    client.report()                                         # what to tell the owner, with alarms of epochs that were dropped
     store(client.state)                                     # and then Client(signing_key, vrf_key, policy, state)
 
 If the policy has a clock, the latest epoch must have begun at most `max_age` seconds ago, by default two periods. It must begin at
 most `skew` seconds from now. Only a lookup of an epoch by its number may be older: ask for a number of your own, never for that of
-the reply. Without a clock, `found.first_seen` says since when this client has had the entry.
+the reply. Without a clock, `found.first_seen` says since when this client has had the entry. Times are compared in whole seconds:
+fractions of the clock's time, of `max_age` and of `skew` are dropped.
 
-Each accepted entry is kept, until `cover` is called with an auditor's head. Compare heads with auditors and other clients:
-`compare` says whether a head is one of this chain, and `evidence` what convicts the provider together with another one's entry.
+Each accepted entry is kept, until `drop` is called, or `cover` with an auditor's head. Compare heads with auditors and other clients:
+`compare` says whether a head is one of this chain, and `evidence` what convicts the provider together with another one's entry. An
+entry whose body is signed again takes the place of the latest one. After `PREVIOUS_LINK` get the latest entry once more and feed it: it
+may have been signed again.
+
+    client = Client(signing_key, vrf_key, policy, trust=Trust(digest, auditors=4, faulty=1))
+    client.mark(0, head)                                    # a head that the first auditor of the trust document cosigned
+    client.is_relied(found)                                 # whether a quorum of them confirms the epoch of what was found
+    client.drop()                                           # what a quorum confirms, and what can no longer be verified
 
 Public keys are 32 bytes, for Ed25519 and ECVRF-EDWARDS25519-SHA512-TAI; the module needs PyNaCl for them
-(`pip install coniks[client]`) and the C library. For another scheme pass an object: a `SignatureScheme` or an `IndexScheme`. What
-its `verify` returns counts only if it is `True` itself. A client is for one thread at a time, and can't be copied.
+(`pip install coniks[client]`) and the C library, whose proved core decides all of this (include/coniks_core.h). For another scheme pass
+an object: a `SignatureScheme` or an `IndexScheme`. What its `verify` returns counts only if it is `True` itself. A client is for one
+thread at a time, and can't be copied.
 """
 
 from __future__ import annotations
 
+import ctypes
 import enum
-import hashlib
 import math
-import sys
 import time
-from bisect import bisect_right
 from dataclasses import dataclass
-from itertools import takewhile
-from types import ModuleType
-from typing import Any, Callable, Iterable, Mapping, NoReturn, Optional, Protocol, Sequence, Union
+from typing import Any, Callable, Iterable, Iterator, Mapping, NoReturn, Optional, Union
 
-from . import BODY_LENGTH, ENTRY_LENGTH, Auditor, Body, Head, Name, Policy, Refused, _bytes, _name, _number, check, convicts
-from . import _watch
-from ._messages import Cause, Evidence, History, Reader, Refusal, Reply, catch_up_entries
-from ._watch import Kept, Seen, Watch, Watched
+from . import ENTRY_LENGTH, EvidenceKind, Head, Name, Policy, Status, _bytes, _bytes32, _core, _name, _number, convicts, link
+from ._core import library
+from ._memory import Memory
+from ._messages import MISUSES, Cause, Evidence, Refusal
+from ._verdicts import IndexScheme, SignatureScheme, Verifier, part
 
 __all__ = [
+    "Alarm",
     "Cause",
     "Client",
     "Comparison",
@@ -53,33 +61,25 @@ __all__ = [
     "Found",
     "IndexScheme",
     "Refusal",
+    "Report",
+    "Reported",
     "SignatureScheme",
     "Step",
+    "Trust",
     "Watched",
 ]
 
-_VERSION = b"\x02"  # of a state
-_FIXED = 1 + 32 + 4 + 1 + 32  # the bytes of a state without epochs and watch
+Clock = Callable[[], float]
 
 
-class SignatureScheme(Protocol):
-    """A signature scheme with its public key, in place of an Ed25519 key."""
+class Watched(enum.Enum):
+    """What an epoch shows of the watched name: the expected key, or none if none is expected (`SAME`); another key, or a key though
+    none is expected (`CHANGED`); none though one is expected (`ABSENT`); or there was no reply for it (`MISSING`)."""
 
-    def verify(self, body: bytes, signature: bytes) -> bool:
-        """Returns True if 64 bytes are a valid signature of 145 bytes."""
-        ...
-
-
-class IndexScheme(Protocol):
-    """Where names are stored, in place of a VRF's key."""
-
-    def verify(self, name: bytes, proof: bytes) -> bool:
-        """Returns True if the proof is one of this name. A directory without a VRF has the proof of no byte."""
-        ...
-
-    def index(self, name: bytes, proof: bytes) -> bytes:
-        """Returns the index of a name, 32 bytes, whose proof was verified."""
-        ...
+    SAME = "same"
+    CHANGED = "changed"
+    ABSENT = "absent"
+    MISSING = "missing"
 
 
 class Comparison(enum.Enum):
@@ -90,9 +90,40 @@ class Comparison(enum.Enum):
     DIFFERS = "differs"
 
 
+class Reported(enum.Enum):
+    """What a client reports of the watched name: the first of these that applies, as docs/FORMATS.md has them."""
+
+    CHANGED = "changed"
+    MISSING = "missing"
+    LOST = "lost"
+    UNWATCHED = "unwatched"
+    UNCONFIRMED = "unconfirmed"
+    GOOD = "good"
+
+
+# The same by the numbers of the core.
+_WATCHED = {0: None, 1: Watched.SAME, 3: Watched.CHANGED, 4: Watched.ABSENT, 5: Watched.MISSING}
+_MISSING = 5
+_COMPARED = dict(enumerate(Comparison, 1))
+_REPORTED = dict(enumerate(Reported, 1))
+_SHOWS_KEY = 1
+_PLACE = "the place of an auditor"
+
+
+@dataclass(frozen=True)
+class Trust:
+    """What a client needs of a trust document (`coniks.trust`): its SHA-256, how many auditors it has, and how many of them may be
+    faulty. An auditor's place, from 0 on, is that of its line among theirs."""
+
+    digest: bytes
+    auditors: int
+    faulty: int
+
+
 @dataclass(frozen=True)
 class Step:
-    """An entry that was accepted: its epoch, and `MISSING` if that must show the watched name, until a reply does."""
+    """An entry that was accepted: its epoch, and `MISSING` if that must show the watched name, until a reply does. One that is signed
+    again has what was seen at its epoch."""
 
     epoch: int
     seen: Optional[Watched]
@@ -116,56 +147,22 @@ class Found:
         raise TypeError("a reply that is accepted may show that a name has no key: look at `key`")
 
 
-def _ecvrf_module() -> ModuleType:
-    """The module over libsodium, which needs PyNaCl."""
-    try:
-        from . import _ecvrf
-    except ImportError as error:
-        raise ImportError(f"{error}: install PyNaCl, by pip install coniks[client], or pass objects in place of keys") from error
-    return _ecvrf
+@dataclass(frozen=True)
+class Alarm:
+    """An epoch of the watched name that was dropped, and not seen as the same: it is `CHANGED` or `ABSENT`, or `MISSING` if it was
+    lost."""
+
+    epoch: int
+    seen: Watched
 
 
-class _Ed25519:
-    """Verifies signatures of one key by libsodium."""
+@dataclass(frozen=True)
+class Report:
+    """What a client reports of the watched name, and the first and the last epoch that it is about: 0 if it is `UNWATCHED`."""
 
-    def __init__(self, key: bytes):
-        self._key, self._ecvrf = key, _ecvrf_module()
-        if not self._ecvrf.is_key(key):
-            raise Refusal(Cause.SIGNING_KEY)
-
-    def verify(self, body: bytes, signature: bytes) -> bool:
-        return bool(self._ecvrf.is_signed(self._key, body, signature))
-
-
-class _NoVrf:
-    """A directory without a VRF, whose indices nobody has given."""
-
-    def verify(self, name: bytes, proof: bytes) -> bool:
-        return False
-
-    def index(self, name: bytes, proof: bytes) -> bytes:
-        raise Refusal(Cause.VRF_PROOF)
-
-
-class _Vrf:
-    """Verifies proofs of one VRF key over libsodium."""
-
-    def __init__(self, key: bytes):
-        self._key, self._ecvrf = key, _ecvrf_module()
-        if not self._ecvrf.is_key(key):
-            raise Refusal(Cause.VRF_KEY)
-        # The index of the name and proof that were verified last.
-        self._verified: dict[tuple[bytes, bytes], bytes] = {}
-
-    def verify(self, name: bytes, proof: bytes) -> bool:
-        try:
-            self._verified = {(name, proof): self._ecvrf.verify(self._key, name, proof)[:32]}
-        except self._ecvrf.InvalidProof:
-            return False
-        return True
-
-    def index(self, name: bytes, proof: bytes) -> bytes:
-        return self._verified[name, proof]
+    what: Reported
+    first: int
+    last: int
 
 
 class Client:
@@ -173,7 +170,8 @@ class Client:
 
     `signing_key` and `vrf_key` are public keys, or objects for other schemes; `vrf_key` is None in a directory without a VRF, of
     which nothing can be looked up without such an object. `policy` is the `Policy`, or its digest, 32 bytes, which has no clock.
-    `state` is what another client had as its `state`. `clock` returns the Unix time in seconds.
+    `state` is what another client had as its `state`. `clock` returns the Unix time in seconds. `trust` names the auditors, of which
+    a quorum confirms epochs; without it none is confirmed.
     """
 
     def __init__(
@@ -185,21 +183,18 @@ class Client:
         *,
         max_age: Optional[float] = None,
         skew: float = 300,
-        clock: Callable[[], float] = time.time,
+        clock: Clock = time.time,
+        trust: Optional[Trust] = None,
     ):
-        self._signatures, self._indices = signatures_of(signing_key), indices_of(vrf_key)
+        self._verifier = Verifier(signing_key, vrf_key)
         check_keys(policy, signing_key, vrf_key)
-        self._digest = policy.digest if isinstance(policy, Policy) else digest(policy)
         self._policy = policy if isinstance(policy, Policy) else None
-        period = (self._policy and self._policy.epoch_period) or 0
-        self._max_age = 2 * period if max_age is None else seconds(max_age, "max_age")
-        self._skew, self._clock = seconds(skew, "skew"), clock
-        # The entries that are kept, by their epochs, in the order of the chain. It is the only record of the chain, so that an
-        # interrupt leaves either all of an entry or nothing of it.
-        self._at: dict[int, Kept] = {}
-        self._watch: Optional[Watch] = None
-        if state is not None:
-            self._resume(_bytes(state, "the state"))
+        self._digest = digest(policy)
+        self._limits, self._promise = limits(self._policy, max_age, skew), promise(self._policy)
+        self._clock, self._trust = clock, trust
+        self._trust_digest, self._quorum = trusted(trust)
+        auditors = trust.auditors if trust else 0
+        self._memory = Memory(auditors) if state is None else self._read(_bytes(state, "the state"), auditors)
 
     @classmethod
     def vouched(
@@ -208,25 +203,21 @@ class Client:
         vrf_key: Union[bytes, IndexScheme, None],
         policy: Union[bytes, Policy],
         entry: bytes,
-        heads: Mapping[str, Head],
+        heads: Mapping[Any, Head],
         least: int,
         *,
         max_age: Optional[float] = None,
         skew: float = 300,
-        clock: Callable[[], float] = time.time,
+        clock: Clock = time.time,
+        trust: Optional[Trust] = None,
     ) -> Client:
         """Returns a client whose chain begins with an entry that at least so many auditors have. `heads` has the head of each
-        auditor for that entry's epoch, by the auditor's name; get each from the auditor itself."""
-        client = cls(signing_key, vrf_key, policy, max_age=max_age, skew=skew, clock=clock)
-        if _number(least, 32, "how many auditors vouch") == 0:
-            raise ValueError("at least one auditor vouches for an entry")
-        kept = Kept.of(client._verified(entry), client._second())
-        links = [link for epoch, link in map(parts_of, heads.values()) if epoch == kept.body.epoch]
-        if any(it != kept.link for it in links):
-            raise Refusal(Cause.AUDITORS_DIFFER)
-        if len(links) < least:
-            raise Refusal(Cause.NOT_VOUCHED)
-        client._at[kept.body.epoch] = kept
+        auditor for that entry's epoch, by the auditor's name; get each from the auditor itself. With `trust` they are by the auditor's
+        place, and `least` is the quorum: each head is marked."""
+        client = cls(signing_key, vrf_key, policy, max_age=max_age, skew=skew, clock=clock, trust=trust)
+        places: Iterable[Any] = heads if trust else range(len(heads))
+        named = {_number(place, 32, _PLACE): parts_of(head) for place, head in zip(places, heads.values())}
+        client._start(_bytes(entry, "an entry"), named, _number(least, 32, "how many auditors vouch"))
         return client
 
     def __reduce__(self) -> NoReturn:
@@ -238,157 +229,153 @@ class Client:
         """Accepts entries that continue the chain: a catch-up's bytes, or a list of entries. Raises `Refusal` at the first one that
         does not, and keeps those before it."""
         if isinstance(entries, (bytes, bytearray, memoryview)):
-            entries = catch_up_entries(bytes(entries))
-        return [self._fed(it) for it in entries]
+            entries = entries_of(bytes(entries))
+        return [self._fed(_bytes(it, "an entry")) for it in entries]
 
     def _fed(self, entry: bytes) -> Step:
-        entry, now = self._verified(entry), self._second()
-        try:
-            follow(self._latest, entry)
-        except Refused as error:
-            evidence = self._convicting(entry)
-            raise Refusal(Cause.EQUIVOCATION if evidence else Cause(error.status), error.status, evidence) from None
-        kept = Kept.of(entry, now)
-        kept.seen = self._watch.first(kept.body.epoch) if self._watch else Seen.UNWATCHED
-        self._at[kept.body.epoch] = kept
-        return Step(kept.body.epoch, kept.seen.told)
+        is_signed, now, why, memory = self._verifier.of_entry(entry), self._second(), _core.Why(), self._memory
+        memory.kept.reserve(1)
+        status = library.coniks_core_feed(
+            self._digest, *memory.kept.all, memory.watch, *memory.marks, entry, len(entry), is_signed, now, why
+        )
+        self._check(status, why, entry)
+        return Step(memory.epoch(-1), _WATCHED[memory.kept[-1].seen])
 
-    @property
-    def _kept(self) -> list[Kept]:
-        return list(self._at.values())
+    def _start(self, entry: bytes, heads: Mapping[int, tuple[int, Any]], least: int) -> None:
+        """Begins with an entry that auditors have, whose heads are by their places."""
+        rows = rows_of(heads, self._trust.auditors if self._trust else len(heads))
+        is_signed, now, why, memory = self._verifier.of_entry(entry), self._second(), _core.Why(), self._memory
+        memory.kept.reserve(1)
+        status = library.coniks_core_start(
+            self._digest, *memory.kept.all, memory.watch, rows, len(rows), least, entry, len(entry), is_signed, now, why
+        )
+        self._check(status, why, entry)
+        for place, head in heads.items() if self._trust else ():
+            self._mark(place, head)
 
-    @property
-    def _latest(self) -> Optional[Kept]:
-        return next(reversed(self._at.values()), None)
+    def _check(self, status: int, why: _core.Why, entry: bytes) -> None:
+        """Raises what a status says of an entry."""
+        if status:
+            check(status, Status(why.status) if why.status else None, self._evidence(why, entry))
 
-    def _is_signed(self, entry: bytes) -> bool:
-        return self._signatures.verify(entry[:BODY_LENGTH], entry[BODY_LENGTH:]) is True
-
-    def _signed(self, given: Any) -> bytes:
-        """An entry of which the signature is valid."""
-        entry = _bytes(given, "an entry")
-        if len(entry) != ENTRY_LENGTH:
-            raise Refusal(Cause.ENTRY_LENGTH)
-        if not self._is_signed(entry):
-            raise Refusal(Cause.SIGNATURE)
-        return entry
-
-    def _verified(self, given: Any) -> bytes:
-        """An entry that is signed, of this directory, and one that some chain has."""
-        entry = self._signed(given)
-        if Body.of_entry(entry).policy != self._digest:
-            raise Refusal(Cause.OTHER_POLICY, None, self._convicting(entry))
-        if convicts(entry, entry):
-            raise Refusal(Cause.MALFORMED, None, self._convicting(entry))
-        return entry
-
-    def _convicting(self, entry: bytes) -> Optional[Evidence]:
-        """The evidence of a signed entry and the first kept one that convicts with it, or of the signed entry alone."""
-        body = Body.of_entry(entry)
-        # Another policy and a wrong form convict with each entry, so with the first; bodies overlap with few.
-        kept = self._kept
-        later = kept[bisect_right(list(self._at), body.previous_epoch) :]
-        overlapping = takewhile(lambda it: it.body.previous_epoch < body.epoch, later)
-        for mine in [*(it.entry for it in (*kept[:1], *overlapping)), entry]:
-            kind = convicts(mine, entry)
-            if kind is not None:
-                return Evidence(mine, entry, kind)
-        return None
+    def _evidence(self, why: _core.Why, entry: bytes) -> Optional[Evidence]:
+        """What convicts the provider together with an entry, or None."""
+        if not why.kind:
+            return None
+        return Evidence(entry if why.mine == _core.NOWHERE else self._memory.entry(why.mine), entry, EvidenceKind(why.kind))
 
     @property
     def entries(self) -> list[bytes]:
         """The entries that are kept, in the order of the chain."""
-        return [it.entry for it in self._kept]
+        return self._memory.column(0, ENTRY_LENGTH)
 
     def head(self) -> Optional[Head]:
         """The head of the latest entry, None before the first."""
-        latest = self._latest
-        return Head(latest.body.epoch, latest.link) if latest else None
+        memory = self._memory
+        return Head(memory.epoch(-1), link(memory.entry(-1))) if len(memory.kept) else None
 
     def compare(self, head: Head) -> Comparison:
         """Returns whether a head is one of the chain, as far as its entries are kept."""
-        epoch, link = parts_of(head)
-        kept = self._at.get(epoch)
-        if kept:
-            return Comparison.EQUAL if kept.link == link else Comparison.DIFFERS
-        is_covered = any(it.body.previous_epoch < epoch < it.body.epoch for it in self._kept)
-        return Comparison.DIFFERS if is_covered else Comparison.UNKNOWN
+        epoch, of_head = parts_of(head)
+        return _COMPARED[library.coniks_core_compare(*self._memory.kept.present, epoch, of_head, ctypes.c_size_t())]
 
     def cover(self, head: Head) -> Comparison:
         """Drops the entries before that of an auditor's head, if it is one of this chain: the auditor's chain has them. Epochs
-        that are missing stay, with what follows them."""
+        that are missing stay, with what follows them, unless they are lost: of these an alarm stays. A client with `trust` raises
+        ValueError: it has `mark` and `drop`."""
+        if self._trust:
+            raise ValueError("one auditor confirms nothing for a client that names its auditors: call `mark` and `drop`")
         found = self.compare(head)
         if found is Comparison.EQUAL:
-            oldest = min([head.epoch, *self.missing])
-            watch = self._watch and self._watch.kept_from(oldest)
-            # The entries come first, so that an interrupt never leaves one whose change was dropped.
-            self._at, self._watch = {epoch: it for epoch, it in self._at.items() if epoch >= oldest}, watch
+            self._drop((ctypes.c_uint64 * 1)(head.epoch), 1, 1)
         return found
 
     def evidence(self, other_entry: bytes) -> Optional[Evidence]:
         """Returns what convicts the provider together with another one's entry, or None. Raises `Refusal` if that isn't signed."""
-        return self._convicting(self._signed(other_entry))
+        entry, why = _bytes(other_entry, "an entry"), _core.Why()
+        is_signed = self._verifier.of_entry(entry)
+        status = library.coniks_core_evidence(*self._memory.kept.present, entry, len(entry), is_signed, why)
+        if status == _core.NO_EVIDENCE:
+            alone = convicts(entry, entry)
+            return Evidence(entry, entry, alone) if alone else None
+        check(status)
+        return self._evidence(why, entry)
+
+    # The auditors.
+
+    def mark(self, auditor: int, head: Head) -> Comparison:
+        """Compares a head that an auditor cosigned, as `compare` does, and remembers its epoch if they are equal. The auditor is the one
+        at this place of the trust document. Verify the cosignature first. Raises ValueError if there is no such auditor."""
+        return self._mark(_number(auditor, 32, _PLACE), parts_of(head))
+
+    def _mark(self, place: int, head: tuple[int, Any]) -> Comparison:
+        found = library.coniks_core_mark(*self._memory.kept.present, *self._memory.marks, place, *head)
+        if found not in _COMPARED:
+            check(found)
+        return _COMPARED[found]
+
+    @property
+    def confirmed(self) -> Optional[int]:
+        """The latest epoch that a quorum of the auditors confirms, None if there is none."""
+        epoch = ctypes.c_uint64()
+        status = library.coniks_core_confirmed(*self._memory.marks, self._quorum, epoch)
+        return None if status == _core.Misuse.NOT_CONFIRMED else epoch.value
+
+    def is_relied(self, found: Found) -> bool:
+        """Returns whether a quorum of the auditors confirms the epoch of what was found. Raises `Refusal` if it is not kept any more."""
+        memory = self._memory
+        status = library.coniks_core_relied(*memory.kept.present, memory.place(found.epoch), *memory.marks, self._quorum)
+        if status != _core.Misuse.NOT_CONFIRMED:
+            check(status)
+        return bool(status == 0)
+
+    def drop(self) -> list[int]:
+        """Drops the first epochs: those before the confirmed one, and before the first missing one that is not lost. Returns them. Each
+        watched one that was not seen as the same leaves an alarm. No reply for a dropped epoch is accepted: ask for missing ones first.
+        """
+        return self._drop(*self._memory.marks, self._quorum)
+
+    def _drop(self, marks: Any, auditors: int, quorum: int) -> list[int]:
+        memory, covered, present = self._memory, _core.Covered(), self._present(self._now())
+        epochs = memory.epochs()
+        memory.alarms.reserve(len(memory.kept))
+        status = library.coniks_core_cover(
+            present, self._promise, *memory.kept.all, marks, auditors, quorum, memory.watch, *memory.changes.all,
+            *memory.alarms.all, covered,
+        )  # fmt: skip
+        check(status)
+        return epochs[: covered.epochs]
 
     # Lookups.
 
     def lookup(self, name: Name, reply: bytes, epoch: Optional[int] = None) -> Found:
         """Returns what a reply shows of a name, at the epoch that was asked for, or at the latest one. Raises `Refusal`."""
-        asked, parts, now = _name(name), Reply.read(reply), self._now()
-        kept = self._entry_of(parts.entry, None if epoch is None else _number(epoch, 64, "the epoch"))
-        if epoch is None:
-            self._check_age(kept, now)
-        key = self._key(asked, kept, self._index(asked, parts.vrf), parts.proof)
-        return self._found(asked, kept, key, now)
+        asked, reply, needs, memory = _name(name), _bytes(reply, "a reply"), _core.Needs(), self._memory
+        number = 0 if epoch is None else _number(epoch, 64, "the epoch")
+        check(library.coniks_core_reply_needs(*memory.kept.present, reply, len(reply), needs))
+        now, found, why = self._now(), _core.Found(), _core.Why()
+        verdicts = self._verifier.of_reply(asked, reply, needs)
+        asking = _core.Asking(asked, len(asked), reply, len(reply), epoch is not None, number)
+        status = library.coniks_core_lookup(self._digest, self._present(now), *memory.watched, asking, verdicts, found, why)
+        self._check(status, why, part(reply, needs.entry_start, ENTRY_LENGTH))
+        return self._told(found, part(reply, found.key_start, found.key_length), now)
 
     def history(self, name: Name, history: bytes) -> list[Found]:
         """Returns what a history shows of a name, one for each of its epochs. Raises `Refusal`, and then keeps nothing of it."""
-        asked, parts, now = _name(name), History.read(history), self._now()
-        index = self._index(asked, parts.vrf)
-        keys: list[tuple[Kept, Optional[bytes]]] = []
-        for step in parts.steps():
-            kept = self._at.get(step.epoch)
-            if kept is None:
-                raise Refusal(Cause.UNKNOWN_EPOCH)
-            key = self._key(asked, kept, index, step.proof)
-            # Equal keys are one object, since a history may repeat a long key at each epoch.
-            keys.append((kept, keys[-1][1] if keys and keys[-1][1] == key else key))
-        return [self._found(asked, kept, key, now) for kept, key in keys]
+        asked, history, needs, memory = _name(name), _bytes(history, "a history"), _core.HistoryNeeds(), self._memory
+        check(library.coniks_core_history_needs(history, len(history), needs))
+        now, count, asking = self._now(), ctypes.c_size_t(), _core.History(asked, len(asked), history, len(history))
+        verdicts = self._verifier.of_history(asked, history, needs)
+        steps = (_core.Step * (len(memory.kept) + 1))()
+        status = library.coniks_core_history(*memory.watched, asking, verdicts, _core.Siblings(), steps, len(steps), count)
+        check(status)
+        return [self._told(it, key, now) for it, key in with_keys(steps[: count.value])]
 
-    def _entry_of(self, entry: bytes, epoch: Optional[int]) -> Kept:
-        """The chain's entry at an epoch, if a reply has it too. Its signature may be another one of the same body."""
-        same = self._at.get(Body.of_entry(entry).epoch)
-        if not (same and same.entry == entry):
-            evidence = self._convicting(self._verified(entry))
-            if evidence:
-                raise Refusal(Cause.EQUIVOCATION, None, evidence)
-        kept = self._latest if epoch is None else self._at.get(epoch)
-        if kept is None:
-            raise Refusal(Cause.UNKNOWN_EPOCH)
-        if kept.entry[:BODY_LENGTH] != entry[:BODY_LENGTH]:
-            raise Refusal(Cause.OTHER_EPOCH)
-        return kept
-
-    def _index(self, name: bytes, proof: bytes) -> bytes:
-        if self._indices.verify(name, proof) is not True:
-            raise Refusal(Cause.VRF_PROOF)
-        index = self._indices.index(name, proof)
-        if not isinstance(index, bytes) or len(index) != 32:
-            raise TypeError("an index is 32 bytes: look at the object that returns it")
-        return index
-
-    def _key(self, name: bytes, kept: Kept, index: bytes, proof: bytes) -> Optional[bytes]:
-        try:
-            return check(kept.body.nonce, kept.body.root, index, name, proof)
-        except Refused as error:
-            raise Refusal(Cause(error.status)) from None
-
-    def _found(self, name: bytes, kept: Kept, key: Optional[bytes], now: float) -> Found:
-        seen, watch, epoch = None, self._watch, kept.body.epoch
-        if watch and name == watch.name and epoch >= watch.since:
-            # The watch comes first, so that an interrupt never leaves an epoch that is seen and of which it knows nothing.
-            self._watch, kept.seen = watch.shown(epoch, key)
-            seen = kept.seen.told
-        return Found(epoch, key, seen, self._age(kept, now), kept.first_seen)
+    def _told(self, found: Any, key: bytes, now: float) -> Found:
+        """What the core found, in Python."""
+        epoch, kept = self._memory.epoch(found.place), self._memory.kept[found.place]
+        is_key, first_seen = found.shows == _SHOWS_KEY, int.from_bytes(kept.first_seen, "big")
+        return Found(epoch, key if is_key else None, _WATCHED[found.seen], self._age(epoch, now), first_seen)
 
     # The clock.
 
@@ -398,118 +385,146 @@ class Client:
     def _second(self) -> int:
         return math.floor(self._now())
 
-    def _age(self, kept: Kept, now: float) -> Optional[float]:
+    def _present(self, now: float) -> _core.Present:
+        return _core.Present(*self._limits, math.floor(now))
+
+    def _age(self, epoch: int, now: float) -> Optional[float]:
         """How many seconds ago an epoch began by the policy's clock, None without one."""
         policy = self._policy
         if policy is None or policy.epoch_start is None or policy.epoch_period is None:
             return None
-        begins = policy.epoch_start + (kept.body.epoch - 1) * policy.epoch_period
-        return now - begins
-
-    def _check_age(self, kept: Kept, now: float) -> None:
-        age = self._age(kept, now)
-        if age is not None and not age <= self._max_age:
-            raise Refusal(Cause.STALE)
-        if age is not None and not -age <= self._skew:
-            raise Refusal(Cause.FUTURE)
+        return now - (policy.epoch_start + (epoch - 1) * policy.epoch_period)
 
     # The watched name.
 
     def watch(self, name: Name, key: Optional[bytes], since: Optional[int] = None) -> None:
         """Watches the client's own name: each epoch from `since` on, by default the latest, must show the key, or none if it is
         None. A client watches one name for its life. The same call once more changes nothing; another one raises ValueError."""
-        latest = self.head()
-        first = since if since is not None else latest.epoch if latest else 1
-        watch = _watch.made(_name(name), key, first)
-        if self._watch is None:
-            for it in self._kept:
-                it.seen = watch.first(it.body.epoch)
-            self._watch = watch
-        elif watch.name != self._watch.name or watch.key not in self._watch.keys or since not in (None, self._watch.since):
-            raise ValueError("this client watches another name or key: use `expect`, or make another client")
+        first, memory = 0 if since is None else _number(since, 64, "the first epoch"), self._memory
+        named, expected = memory.hold(_name(name), expected_key(key))
+        wanted = _core.Watch(1, *named, first, *expected)
+        status = library.coniks_core_watch(*memory.watched, wanted, since is not None)
+        check(status, length=named[1])
 
     def expect(self, new: Optional[bytes], by: int) -> None:
         """Expects the owner's own change of the key: later epochs may show the old or the new key, and from epoch `by` on only
         the new one. No epoch may show the old key after one that showed the new key. Raises ValueError if no name is watched, and
         while another change is open: until the chain has its epoch `by` or a later one, or an epoch showed its key."""
-        if self._watch is None:
-            raise ValueError("no name is watched: call `watch` first")
-        latest = self.head()
-        self._watch = self._watch.changed(_watch.expected(new), latest.epoch if latest else 0, _number(by, 64, "the epoch"))
+        key, number, memory = expected_key(new), _number(by, 64, "the epoch"), self._memory
+        memory.hold(key)
+        memory.changes.reserve(1)
+        status = library.coniks_core_expect(*memory.kept.present, memory.watch, *memory.changes.all, key, len(key), number)
+        latest, last = memory.epoch(-1) if len(memory.kept) else 0, memory.changes[-1].first_new if len(memory.changes) else 0
+        check(status, latest=latest, last=last)
 
     @property
     def missing(self) -> list[int]:
         """The epochs that must show the watched name, and of which no reply was accepted."""
-        return [it.body.epoch for it in self._kept if it.seen == Seen.MISSING]
+        return [epoch for epoch, _ in self._missing()]
 
     @property
     def lost(self) -> list[int]:
         """The missing epochs of which the policy promises no proof any more, by the client's clock. Say that they can no longer be
         verified, never that they are the same."""
-        policy, now, kept = self._policy, self._now(), self._kept
-        if policy is None:
-            return []
-        missing = [(it, following) for it, following in zip(kept, kept[1:]) if it.seen == Seen.MISSING]
-        return [it.body.epoch for it, following in missing if not policy.is_promised(following.body.epoch, now)]
+        present, kept = self._present(self._now()), self._memory.kept
+        return [it for it, at in self._missing() if library.coniks_core_lost(present, self._promise, *kept.present, at)]
+
+    def _missing(self) -> list[tuple[int, int]]:
+        """The missing epochs with their places."""
+        seen = self._memory.column(_core.Kept.seen.offset, _core.Kept.seen.offset + 1)
+        return [(epoch, at) for at, epoch in enumerate(self._memory.epochs()) if seen[at][0] == _MISSING]
+
+    @property
+    def alarms(self) -> list[Alarm]:
+        """The alarms of dropped epochs, until their owner takes note of them."""
+        return [Alarm(it.epoch, Watched(_WATCHED[it.seen])) for it in self._memory.alarms]
+
+    def note(self, epoch: int) -> None:
+        """Takes note of the alarms up to an epoch, which the owner has seen: they are dropped."""
+        check(library.coniks_core_note(*self._memory.alarms.all, _number(epoch, 64, "the epoch")))
+
+    def report(self) -> Report:
+        """Returns what to tell the owner of the watched name. Raises ValueError if none is watched."""
+        memory, told = self._memory, _core.Report()
+        status = library.coniks_core_report(
+            self._present(self._now()), *memory.kept.present, memory.watch, self._promise, *memory.alarms.present, *memory.marks,
+            self._quorum, told,
+        )  # fmt: skip
+        check(status)
+        return Report(_REPORTED[told.verdict], told.first, told.last)
 
     # The state.
 
     @property
     def state(self) -> bytes:
-        """All that the client keeps, to be stored, and given to another one: 70 bytes, 218 for each epoch, and the watched name."""
-        kept = [len(self._at).to_bytes(4, "big"), *map(bytes, self._kept)]
-        whole = b"".join([_VERSION, self._digest, *kept, _watch.watch_bytes(self._watch)])
-        return whole + hashlib.sha256(whole).digest()
+        """All that the client keeps, to be stored, and given to another one: 110 bytes, 218 for each epoch, 9 for each alarm, 8 for each
+        auditor, and the watched name."""
+        size, saved = ctypes.c_size_t(), self._memory.saved(self._trust_digest)
+        check(library.coniks_core_state_size(self._digest, saved, size))
+        state = ctypes.create_string_buffer(size.value)
+        check(library.coniks_core_state_write(self._digest, saved, state, size.value, size))
+        return state.raw
 
-    def _resume(self, state: bytes) -> None:
-        for is_wrong, cause in [
-            (len(state) < _FIXED, Cause.STATE_LENGTH),
-            (state[:1] != _VERSION, Cause.STATE_VERSION),
-            (hashlib.sha256(state[:-32]).digest() != state[-32:], Cause.STATE_DAMAGED),
-            (state[1:33] != self._digest, Cause.STATE_POLICY),
-        ]:
-            if is_wrong:
-                raise Refusal(cause)
-        it = Reader(state[:-32], Cause.STATE_FORM, 33)
-        kept = [_watch.read_kept(it) for _ in range(it.number(4))]
-        watch = _watch.read_watch(it)
-        if not it.is_over or not all(watch.fits(at) if watch else at.seen == Seen.UNWATCHED for at in kept):
-            raise Refusal(Cause.STATE_FORM)
-        self._watch = watch
-        self._resume_chain(kept)
-
-    def _resume_chain(self, kept: Sequence[Kept]) -> None:
-        """Takes the chain of a state. Its first entry may follow others."""
-        try:
-            for it in kept:
-                self._verified(it.entry)
-                if self._latest:
-                    follow(self._latest, it.entry)
-                self._at[it.body.epoch] = it
-        except (Refusal, Refused):
-            raise Refusal(Cause.STATE_CHAIN) from None
+    def _read(self, state: bytes, auditors: int) -> Memory:
+        """What a state has. Its marks are 0 if it is of other auditors."""
+        needs = _core.StateNeeds()
+        check(library.coniks_core_state_needs(self._digest, state, len(state), needs))
+        verdicts = self._verifier.of_state(state, needs)
+        memory = Memory(auditors, needs.kept, needs.changes, needs.alarms, state)
+        status = library.coniks_core_state_read(
+            self._digest, state, len(state), verdicts, needs.kept, self._trust_digest, *memory.kept.all, memory.watch,
+            *memory.changes.all, *memory.alarms.all, *memory.marks,
+        )  # fmt: skip
+        check(status)
+        return memory
 
 
-def follow(latest: Optional[Kept], verified_entry: bytes) -> None:
-    """Checks that an entry whose signature was verified follows the latest one, or begins the chain. Raises `coniks.Refused`."""
-    auditor = auditor_after(latest) if latest else Auditor()
-    auditor.feed(verified_entry, signature_is_good=True)
+def check(status: int, of_entry: Optional[Status] = None, evidence: Optional[Evidence] = None, **values: int) -> None:
+    """Raises what a status of the core says, if it is an error. `values` are for the texts of misuses."""
+    if status >= min(_core.Misuse):
+        raise ValueError(MISUSES[_core.Misuse(status)].format(**values))
+    if status:
+        raise Refusal(Cause(status), of_entry, evidence)
 
 
-def auditor_after(kept: Kept) -> Auditor:
-    """An auditor whose last accepted entry is this one: its state, in the machine's byte order, is that of coniks.h."""
-    body = kept.body
-    return Auditor(b"".join([body.epoch.to_bytes(8, sys.byteorder), kept.link, body.nonce, bytes([body.version]), bytes(7)]))
+def entries_of(catch_up: bytes) -> list[bytes]:
+    """The entries of a catch-up. Raises `Refusal` for another number of bytes."""
+    count = ctypes.c_size_t()
+    check(library.coniks_core_catch_up(catch_up, len(catch_up), count))
+    return [part(catch_up, it * ENTRY_LENGTH, ENTRY_LENGTH) for it in range(count.value)]
 
 
-def parts_of(head: Any) -> tuple[int, bytes]:
+def with_keys(steps: Iterable[_core.Step]) -> Iterator[tuple[_core.Step, bytes]]:
+    """Steps with their keys. A key that a history repeats is one object, however long it is."""
+    place, key = (0, 0), b""
+    for it in steps:
+        if (it.key, it.key_length) != place:
+            place, key = (it.key, it.key_length), ctypes.string_at(it.key, it.key_length) if it.key else b""
+        yield it, key
+
+
+def parts_of(head: Any) -> tuple[int, Any]:
     """The epoch and the link of a head that its caller gives."""
     if not isinstance(head, Head):
         raise TypeError(f"a head is a Head, not {type(head).__name__}")
-    link = _bytes(head.link, "the link")
-    if len(link) != 32:
-        raise ValueError(f"the link has 32 bytes, not {len(link)}")
-    return _number(head.epoch, 64, "the epoch"), link
+    return _number(head.epoch, 64, "the epoch"), _bytes32(head.link, "the link")
+
+
+def rows_of(heads: Mapping[int, tuple[int, Any]], auditors: int) -> Any:
+    """The heads of auditors by their places, as the core takes them."""
+    rows = (_core.Head * auditors)()
+    for place, (epoch, of_head) in heads.items():
+        if place >= auditors:
+            raise ValueError(MISUSES[_core.Misuse.NO_AUDITOR])
+        rows[place] = _core.Head(1, epoch, of_head)
+    return rows
+
+
+def expected_key(key: Optional[bytes]) -> bytes:
+    """An expected key that its caller gives, of no byte if it is None. No accepted proof shows an empty one."""
+    if key is not None and not _bytes(key, "the expected key"):
+        raise ValueError("an expected key has at least one byte; None expects none")
+    return b"" if key is None else bytes(key)
 
 
 def check_keys(policy: Any, signing_key: Any, vrf_key: Any) -> None:
@@ -521,34 +536,37 @@ def check_keys(policy: Any, signing_key: Any, vrf_key: Any) -> None:
         raise Refusal(Cause.POLICY_KEYS)
 
 
-def digest(policy: Any) -> bytes:
+def digest(policy: Any) -> Any:
     """A policy digest."""
-    if len(_bytes(policy, "the policy")) != 32:
+    given = policy.digest if isinstance(policy, Policy) else _bytes(policy, "the policy")
+    if len(given) != 32:
         raise ValueError("a policy digest has 32 bytes: pass Policy.read(document) for a document")
-    return bytes(policy)
+    return _bytes32(given, "the policy digest")
 
 
-def signatures_of(key: Union[bytes, SignatureScheme]) -> SignatureScheme:
-    """What verifies the signatures of a key, or the object in place of one."""
-    if isinstance(key, bytes):
-        return _Ed25519(key)
-    check_calls(key, ["verify"])
-    return key
+def limits(policy: Optional[Policy], max_age: Optional[float], skew: float) -> tuple[int, ...]:
+    """The policy's clock and the client's limits, as the core has them."""
+    start, period = (policy.epoch_start, policy.epoch_period) if policy else (None, None)
+    # No epoch is older than 2^64 seconds.
+    longest = min(2 * (period or 0), (1 << 64) - 1) if max_age is None else math.floor(seconds(max_age, "max_age"))
+    return int(start is not None), start or 0, period or 0, longest, math.floor(seconds(skew, "skew"))
 
 
-def indices_of(key: Union[bytes, IndexScheme, None]) -> IndexScheme:
-    """What verifies the proofs of a VRF's key, or the object in place of one."""
-    if key is None:
-        return _NoVrf()
-    if isinstance(key, bytes):
-        return _Vrf(key)
-    check_calls(key, ["verify", "index"])
-    return key
+def promise(policy: Optional[Policy]) -> _core.Promise:
+    """For how long a policy promises proofs, for ever without one."""
+    kept = policy.proofs_kept if policy else None
+    return _core.Promise(kept is not None, kept or 0)
 
 
-def check_calls(given: object, calls: Sequence[str]) -> None:
-    if not all(callable(getattr(given, it, None)) for it in calls):
-        raise TypeError(f"a key is bytes, or an object with {' and '.join(calls)}, not {type(given).__name__}")
+def trusted(trust: Optional[Trust]) -> tuple[Any, int]:
+    """The digest of a trust document, and the quorum of its auditors."""
+    if trust is None:
+        return _bytes32(bytes(32), "no trust document"), 0
+    auditors, faulty = (_number(it, 32, "a number of auditors") for it in (trust.auditors, trust.faulty))
+    quorum = library.coniks_core_quorum(auditors, faulty)
+    if not quorum:
+        raise ValueError("more than three auditors are needed for each one that may lie")
+    return _bytes32(trust.digest, "the digest of a trust document"), quorum
 
 
 def seconds(value: Any, what: str) -> float:

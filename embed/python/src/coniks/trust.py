@@ -3,6 +3,8 @@
     trust = Trust(policy.digest, (Auditor.read(".."), ..), faulty=1)
     bytes(trust)                                           # the document
     trust.fingerprint                                      # what two people compare
+    client = Client(.., trust=trust.of_client)             # whose auditors these are
+    client.mark(trust.place(auditor), note.head(policy))   # once the note's cosignature is verified
 
 Two clients of one fingerprint, each of which has a quorum for a head, have heads of one chain, as long as at most `faulty` of these
 auditors lie. Under two fingerprints nothing of that is known. The module needs PyNaCl.
@@ -14,6 +16,7 @@ import hashlib
 import re
 from dataclasses import dataclass
 
+from . import client
 from .notes import Auditor, quorum
 
 __all__ = ["Trust"]
@@ -52,8 +55,25 @@ class Trust:
 
     def __bytes__(self) -> bytes:
         """The document."""
-        auditors = sorted(f"auditor {it}\n" for it in self.auditors)
-        return f"trust coniks-1\npolicy {self.policy.hex()}\n{''.join(auditors)}faulty {self.faulty}\n".encode()
+        return f"trust coniks-1\npolicy {self.policy.hex()}\n{''.join(self._lines)}faulty {self.faulty}\n".encode()
+
+    @property
+    def _lines(self) -> list[str]:
+        return sorted(f"auditor {it}\n" for it in self.auditors)
+
+    def place(self, auditor: Auditor) -> int:
+        """Returns the place of an auditor in the document, from 0 on. Raises `ValueError` if it isn't one of them."""
+        return self._lines.index(f"auditor {auditor}\n")
+
+    @property
+    def digest(self) -> bytes:
+        """The SHA-256 of the document."""
+        return hashlib.sha256(bytes(self)).digest()
+
+    @property
+    def of_client(self) -> client.Trust:
+        """What a `coniks.client.Client` needs of it."""
+        return client.Trust(self.digest, len(self.auditors), self.faulty)
 
     @property
     def needed(self) -> int:
@@ -63,5 +83,5 @@ class Trust:
     @property
     def fingerprint(self) -> str:
         """The SHA-256 of the document, in eight groups of eight hexadecimal digits."""
-        digits = hashlib.sha256(bytes(self)).hexdigest()
+        digits = self.digest.hex()
         return " ".join(digits[it : it + 8] for it in range(0, 64, 8))

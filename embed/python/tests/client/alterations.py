@@ -120,7 +120,7 @@ class Alterer:
         name = self.chance.choice(NUMBERS)
         if name in step or (name == "epoch" and step.get("do") == "lookup"):
             before = step.get(name) or 0
-            step[name] = self.chance.choice([0, 1, 2, 3, 5, 6, before + 1, max(0, before - 1), 2**64 - 1])
+            step[name] = self.chance.choice([0, 1, 2, 3, 5, 6, min(before + 1, 2**64 - 1), max(0, before - 1), 2**64 - 1])
         if name == "now" and step:
             step["now"] = client_world.hour(self.chance.randrange(8), self.chance.choice([-300, 0, 600, 3599]))
         if step.get("do") == "lookup" and step.get("epoch") == 2**64 - 1:

@@ -5,11 +5,11 @@ from __future__ import annotations
 import hashlib
 import json
 from pathlib import Path
-from typing import Any, Callable, Iterator, Optional
+from typing import Any, Callable, Iterable, Iterator, Optional
 
 import client_alarms
 import coniks
-from coniks.client import Cause, Client, Found, Refusal
+from coniks.client import Cause, Client, Found, Refusal, Reported, Trust, Watched
 
 
 TOP = Path(__file__).resolve().parents[4]
@@ -22,6 +22,8 @@ KINDS = {
 }
 # The name of the status 33 in docs/FORMATS.md.
 NAMES = {Cause.VERSION_UNKNOWN: "Version"}
+# What an alarm is called.
+ALARMS = {Watched.CHANGED: "changed", Watched.ABSENT: "absent", Watched.MISSING: "lost"}
 
 
 class Clock:
@@ -34,9 +36,24 @@ class Clock:
 
 
 def cases() -> Iterator[Answer]:
-    """All cases but those of states that this package does not read."""
-    for file in sorted(it for it in CASES.glob("*.jsonl") if it.stem not in client_alarms.FILES):
-        for line in file.read_text("utf-8").splitlines():
+    """The cases of clients whose states have version 02, which the packages for other languages run."""
+    return cases_in(it.stem for it in CASES.glob("*.jsonl") if it.stem not in client_alarms.FILES)
+
+
+def alarm_cases() -> Iterator[Answer]:
+    """The cases of clients whose states have version 03."""
+    return cases_in(client_alarms.FILES)
+
+
+def shared_cases() -> Iterator[Answer]:
+    """The cases of the others without a state of version 02, or one that was made of it. Other versions are refused by all."""
+    return (it for it in cases() if (it.get("state") or "")[:2] not in ("02", "03"))
+
+
+def cases_in(names: Iterable[str]) -> Iterator[Answer]:
+    """The cases of some files."""
+    for name in sorted(names):
+        for line in (CASES / f"{name}.jsonl").read_text("utf-8").splitlines():
             yield json.loads(line)
 
 
@@ -49,12 +66,17 @@ def begun(case: Answer, clock: Clock) -> Client:
     """The client of a case."""
     policy = coniks.Policy.read(case["policy"].encode())
     keys = bytes.fromhex(case["signing_key"]), data(case, "vrf_key")
-    more: dict[str, Any] = {"max_age": case.get("max_age"), "skew": case.get("skew", 300), "clock": clock}
+    more: dict[str, Any] = {"max_age": case.get("max_age"), "skew": case.get("skew", 300), "clock": clock, "trust": trust_of(case)}
     vouched = case.get("vouched")
     if vouched is None:
         return Client(*keys, policy, data(case, "state"), **more)
-    heads = {str(at): coniks.Head(epoch, bytes.fromhex(link)) for at, (epoch, link) in enumerate(vouched["heads"])}
+    heads = {at: coniks.Head(epoch, bytes.fromhex(link)) for at, (epoch, link) in enumerate(vouched["heads"])}
     return Client.vouched(*keys, policy, bytes.fromhex(vouched["entry"]), heads, vouched["least"], **more)
+
+
+def trust_of(case: Answer) -> Optional[Trust]:
+    it = case.get("trust")
+    return Trust(bytes.fromhex(it["digest"]), it["auditors"], it["faulty"]) if it else None
 
 
 def found(it: Found) -> Answer:
@@ -67,6 +89,7 @@ def evidence_of(client: Client, given: object) -> Optional[list[Any]]:
     if given is None:
         return None
     mine, other, kind = vars(given).values()
+    assert coniks.convicts(mine, other) is kind and client._verifier.of_entry(other), "what is published convicts"
     return [KINDS[kind], coniks.Body.of_entry(mine).epoch if mine in client.entries else None]
 
 
@@ -85,10 +108,19 @@ def head_of(step: Answer) -> coniks.Head:
 
 def watched(client: Client, step: Answer) -> Answer:
     client.watch(bytes.fromhex(step["name"]), data(step, "key"), step.get("since"))
-    # The first watched epoch is in the state, after the name.
-    state, size = client.state, 37 + 218 * len(client.entries)
-    start = size + 2 + state[size + 1]
-    return {"watch": int.from_bytes(state[start : start + 8], "big")}
+    return {"watch": watched_from(client.state)}
+
+
+def watched_from(state: bytes) -> int:
+    """The first watched epoch in a state, which is after the name."""
+
+    def number(at: int, size: int = 4) -> int:
+        return int.from_bytes(state[at : at + size], "big")
+
+    alarms = 37 + 218 * number(33)
+    marks = alarms + 4 + 9 * number(alarms) + 32
+    watch = marks + 4 + 8 * number(marks)
+    return number(watch + 2 + state[watch + 1], 8)
 
 
 def expected(client: Client, step: Answer) -> Answer:
@@ -104,6 +136,28 @@ def gone_through(client: Client, step: Answer) -> Answer:
     return {"found": [found(it) for it in client.history(bytes.fromhex(step["name"]), bytes.fromhex(step["history"]))]}
 
 
+def covered(client: Client, step: Answer) -> Answer:
+    """What is dropped: by the head of one auditor if the step has one."""
+    return {"compare": client.cover(head_of(step)).value} if "epoch" in step else {"cover": client.drop()}
+
+
+def listed(client: Client) -> Answer:
+    return {"alarms": [[it.epoch, ALARMS[it.seen]] for it in client.alarms]}
+
+
+def noted(client: Client, step: Answer) -> Answer:
+    client.note(step["epoch"])
+    return listed(client)
+
+
+def reported(client: Client) -> Answer:
+    it = client.report()
+    if it.what in (Reported.GOOD, Reported.UNCONFIRMED):
+        return {"report": [it.what.value, it.first, it.last]}
+    assert it.first == it.last and (it.what is Reported.UNWATCHED) == (it.first == 0)
+    return {"report": [it.what.value, it.first][: 1 if it.first == 0 else 2]}
+
+
 CALLS: dict[str, Callable[[Client, Answer], Answer]] = {
     "feed": lambda client, step: fed(client, [bytes.fromhex(it) for it in step["entries"]]),
     "catch up": lambda client, step: fed(client, bytes.fromhex(step["bytes"])),
@@ -112,7 +166,12 @@ CALLS: dict[str, Callable[[Client, Answer], Answer]] = {
     "watch": watched,
     "expect": expected,
     "compare": lambda client, step: {"compare": client.compare(head_of(step)).value},
-    "cover": lambda client, step: {"compare": client.cover(head_of(step)).value},
+    "cover": covered,
+    "mark": lambda client, step: {"mark": client.mark(step["auditor"], head_of(step)).value},
+    "confirmed": lambda client, step: {"confirmed": client.confirmed},
+    "alarms": lambda client, step: listed(client),
+    "note": noted,
+    "report": lambda client, step: reported(client),
     "evidence": lambda client, step: {"evidence": evidence_of(client, client.evidence(bytes.fromhex(step["entry"])))},
     "head": lambda client, step: head(client),
     "missing": lambda client, step: {"missing": client.missing},

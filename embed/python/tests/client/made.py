@@ -1,14 +1,14 @@
-"""Clients of the directory that client_attacks.py describes."""
+"""Clients of the directory that client_attacks.py describes, and what they refuse."""
 
 from __future__ import annotations
 
-from typing import Any, Optional
+from typing import Any, Callable, Optional
 
 from case_runner import Clock
 from client_attacks import WORLD
 from client_world import POLICY, SIGNING_KEY, VRF_KEY, hour
 import coniks
-from coniks.client import Client
+from coniks.client import Client, Refusal
 
 
 THREE = WORLD.entries(1, 2, 3)
@@ -23,3 +23,14 @@ def made(state: Optional[bytes] = None, now: int = hour(3), fed: bool = True, **
     if fed and state is None:
         client.feed(THREE)
     return client
+
+
+def raised(call: Callable[[], object]) -> object:
+    """The cause of a refusal, else the class of an exception, or None."""
+    try:
+        call()
+    except Refusal as error:
+        return error.cause
+    except Exception as error:
+        return type(error)
+    return None

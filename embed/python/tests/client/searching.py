@@ -38,12 +38,15 @@ class Valid:
 
 
 class Mine:
-    """`coniks.client`."""
+    """`coniks.client`. Its owner notes each alarm at once."""
 
     def __init__(self, state: Optional[bytes] = None) -> None:
-        self.client = Client(Valid(), Valid(), digest(POLICY), state, clock=lambda: 0)
+        self.now, self.client = START, self.made(state)
         if state is None:
             self.client.watch("alice", b"A", 1)
+
+    def made(self, state: Optional[bytes]) -> Client:
+        return Client(Valid(), Valid(), coniks.Policy.read(POLICY.encode()), state, clock=lambda: self.now)
 
     @property
     def state(self) -> bytes:
@@ -67,9 +70,14 @@ class Mine:
         return True
 
     def covers(self, epoch: int, link: bytes) -> Iterator[bytes]:
-        """The states after an auditor has covered the chain up to an epoch."""
-        self.client.cover(coniks.Head(epoch, link))
-        yield self.state
+        """The states after an auditor has covered the chain up to an epoch, while no epoch is lost, and while each that another one
+        follows is."""
+        before = self.state
+        for self.now in (hour(99), START):
+            self.client = self.made(before)
+            self.client.cover(coniks.Head(epoch, link))
+            self.client.note(epoch)
+            yield self.state
 
 
 class Theirs:

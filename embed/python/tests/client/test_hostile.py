@@ -4,6 +4,7 @@ are only truthy, exceptions in the middle, and states that were changed. Nothing
 from __future__ import annotations
 
 import copy
+import math
 import pickle
 from dataclasses import dataclass, field
 from hashlib import sha256
@@ -17,23 +18,12 @@ import curve
 from case_runner import Clock
 from client_attacks import OTHER, WORLD
 from client_world import BATCHES, PERIOD, POLICY, SIGNING_KEY, VRF_KEY, World, hour, index, policy_text, signed, vrf_proof
-from made import DIRECTORY, THREE, made
+from made import DIRECTORY, THREE, made, raised
 import coniks
 from coniks.client import Cause, Client, Comparison, Refusal, Watched
 
 
 KEY = b"second key of alice"
-
-
-def raised(call: Callable[[], object]) -> object:
-    """The cause of a refusal, else the class of an exception, or None."""
-    try:
-        call()
-    except Refusal as error:
-        return error.cause
-    except Exception as error:
-        return type(error)
-    return None
 
 
 @dataclass
@@ -162,6 +152,45 @@ def test_clocks() -> None:
             assert found in ((None,) if is_default else (ValueError, TypeError)), f"{name}: {what}: {found}"
 
 
+def test_limits() -> None:
+    """Limits and times of fractions of seconds, which are dropped, and two periods that no number of the core has."""
+    for late, more, wanted in [
+        (7200, {}, None),
+        (7200.75, {}, None),
+        (7201, {}, Cause.STALE),
+        (99, {"max_age": 98.75}, Cause.STALE),
+        (98.75, {"max_age": 98.25}, None),
+        (-300, {}, None),
+        (-300.5, {}, Cause.FUTURE),
+        (-9, {"skew": 9.5}, None),
+        (-9.5, {"skew": 9.5}, Cause.FUTURE),
+    ]:
+        client = made(now=hour(3, 0) + late, **more)  # type: ignore[arg-type]
+        found = raised(lambda: client.lookup("alice", WORLD.reply("alice", 3)))
+        assert found is wanted, f"{late} seconds after the epoch began, {more}: {found}"
+        it = client.lookup("alice", WORLD.reply("alice", 3), 3)
+        assert it.age == late and it.first_seen == hour(3, 0) + math.floor(late), "an age has its fraction"
+    policy = coniks.Policy.read(policy_text(start=0, period=2**63).encode())
+    world = World([(1, {"alice": KEY})], policy=policy.digest)
+    for now in (0, 2**63, 2**64 - 2048):
+        client = Client(SIGNING_KEY, VRF_KEY, policy, clock=lambda: now)
+        client.feed(world.entries())
+        assert client.lookup("alice", world.reply("alice", 1)).age == now, "two periods are more than 2^64 seconds"
+
+
+def test_parts_of_entries() -> None:
+    """A scheme is given the parts of an entry, and nothing of another length."""
+    scheme = Scheme(True)
+    client = Client(scheme, VRF_KEY, DIRECTORY, clock=lambda: hour(3))
+    for entry in (b"", THREE[0][:208], THREE[0] + b"\0"):
+        assert raised(lambda: client.feed([entry])) is raised(lambda: client.evidence(entry)) is Cause.ENTRY_LENGTH
+        head = {"auditor": coniks.Head(1, WORLD.link(1))}
+        assert raised(lambda: Client.vouched(scheme, VRF_KEY, DIRECTORY, entry, head, 1)) is Cause.ENTRY_LENGTH
+    assert scheme.calls == []
+    client.feed(THREE[:1])
+    assert scheme.calls == [(THREE[0][:145], THREE[0][145:])]
+
+
 def test_schemes() -> None:
     """What objects in place of keys return."""
     reply, now = WORLD.reply("alice", 3), lambda: hour(3)
@@ -184,7 +213,7 @@ def test_schemes() -> None:
     good.feed(THREE)
     assert good.lookup("alice", reply).key == KEY, "VRF: an object that verifies"
     for at in [index("alice")[:31], index("alice") + b"\0", bytearray(index("alice")), index("alice").hex(), None, 7]:
-        good._indices.at = at  # type: ignore[attr-defined]
+        good._verifier._indices.at = at  # type: ignore[attr-defined]
         assert raised(lambda: good.lookup("alice", reply)) is TypeError, f"VRF: an index {at!r:.20}"
 
 
@@ -238,6 +267,8 @@ def test_again() -> None:
     assert evidence and coniks.convicts(evidence.mine, evidence.other) is evidence.kind and error.status == 36, "evidence"
     assert evidence and all(is_signed(it) for it in (evidence.mine, evidence.other)), "evidence of both is signed"
     assert client.evidence(OTHER[3]) == evidence, "evidence is found again"
+    shown = refusal(lambda: client.lookup("alice", OTHER.reply("alice", 3)))
+    assert shown.cause is Cause.EQUIVOCATION and shown.evidence == evidence and shown.status is None, "and by a reply"
     assert client.compare(coniks.Head(3, OTHER.link(3))) is Comparison.DIFFERS, "another one's head"
     once_more = signed(THREE[2][:145], nonce=5)
     head = coniks.Head(3, coniks.link(once_more))
@@ -269,9 +300,10 @@ def test_keys() -> None:
     other = Client(SIGNING_KEY, VRF_KEY, bytes(32))
     assert raised(lambda: other.feed(THREE)) is Cause.OTHER_POLICY and not other.entries, "another digest"
     plain = coniks.Policy.read(policy_text(vrf=None).encode())
-    without = Client(SIGNING_KEY, None, plain.digest)
-    assert raised(lambda: without._index(b"alice", b"")) is Cause.VRF_PROOF, "no VRF, and no object"
-    assert raised(lambda: without._index(b"alice", vrf_proof("alice"))) is Cause.VRF_PROOF, "no VRF, and a proof of one"
+    world, without = World(BATCHES[:1], policy=plain.digest), Client(SIGNING_KEY, None, plain.digest)
+    without.feed(world.entries())
+    for reply in (world.reply("alice", 1), world.reply("alice", 1, vrf=b"")):
+        assert raised(lambda: without.lookup("alice", reply)) is Cause.VRF_PROOF, "no VRF, and no object"
 
 
 NAMES = [
@@ -335,12 +367,15 @@ def is_state_refused(state: bytes) -> bool:
 
 
 def is_harmless(state: bytes, before: Client) -> bool:
-    """Whether a state is refused, or only changes times and what is known of the watched name: the chain is the same."""
+    """Whether a state is refused, or only changes times and what is known of the watched name: the chain is the same. One of another
+    trust document is stored as one of the client's."""
     try:
         after = made(state)
     except Refusal as error:
         return error.cause.name.startswith("STATE_")
-    return after.entries == before.entries and after.head() == before.head() and after.state == state
+    trust = 37 + 218 * len(before.entries) + 4
+    stored = state[:-32] if state[trust : trust + 32] == bytes(32) else before.state[:-32]
+    return after.entries == before.entries and after.head() == before.head() and after.state[:-32] == stored
 
 
 def test_watching() -> None:
@@ -359,6 +394,42 @@ def test_watching() -> None:
     assert client.cover(coniks.Head(3, WORLD.link(3))) is Comparison.EQUAL, "the head of an auditor that covers it"
     assert client.missing == [2] and len(client.entries) == 2, "what is missing stays"
     assert client.lookup("alice", WORLD.reply("alice", 2), 2).seen is Watched.SAME and client.missing == [], "and is proved"
+
+
+def test_misuses() -> None:
+    """What a caller must not do has a text, and changes nothing."""
+    client, none_expected = made(), "an expected key has at least one byte; None expects none"
+    check_texts(
+        client,
+        ("no name is watched: call `watch` first", lambda: client.expect(KEY, 9)),
+        ("a name has 1 to 255 bytes, not 256", lambda: client.watch("a" * 256, KEY)),
+        ("a name has 1 to 255 bytes, not 0", lambda: client.watch("", KEY)),
+        (none_expected, lambda: client.watch("alice", b"")),
+        ("the trust document has no such auditor", lambda: client.mark(0, coniks.Head(3, WORLD.link(3)))),
+        ("at least one auditor vouches for an entry", lambda: Client.vouched(SIGNING_KEY, VRF_KEY, DIRECTORY, THREE[2], {}, 0)),
+    )
+    client.watch("alice", KEY)
+    other = "this client watches another name or key: use `expect`, or make another client"
+    check_texts(
+        client,
+        (other, lambda: client.watch("bob", KEY)),
+        (other, lambda: client.watch("alice", None)),
+        (other, lambda: client.watch("alice", KEY, 2)),
+        ("the new key is the one that is expected already", lambda: client.expect(KEY, 9)),
+        ("epoch 3 is in the chain: expect the new key by a later one", lambda: client.expect(b"new", 3)),
+        (none_expected, lambda: client.expect(b"", 9)),
+    )
+    client.expect(b"new", 7)
+    text = "another change is expected by epoch 7: expect the next one after it"
+    check_texts(client, (text, lambda: client.expect(b"newer", 9)))
+
+
+def check_texts(client: Client, *expected: tuple[str, Callable[[], object]]) -> None:
+    state = client.state
+    for text, call in expected:
+        with pytest.raises(ValueError) as caught:
+            call()
+        assert str(caught.value) == text and client.state == state
 
 
 def test_lost() -> None:

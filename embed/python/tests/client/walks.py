@@ -87,6 +87,7 @@ def state_of(case: Answer) -> bytes:
     clock.now = case["now"]
     client = case_runner.begun(case, clock)
     for step in case["steps"]:
+        clock.now = step.get("now", clock.now)
         case_runner.told(lambda: case_runner.CALLS[step["do"]](client, step), client)
     return client.state
 
@@ -94,4 +95,5 @@ def state_of(case: Answer) -> bytes:
 def seen_in(answer: Any) -> list[str]:
     """What the owner was told in a walk."""
     listed = [found for it in answer["steps"] for found in it.get("found", [it])]
-    return [it["seen"] for it in listed if it.get("seen")] + ["misuse" for it in answer["steps"] if "misuse" in it]
+    told = [it["report"][0] for it in answer["steps"] if "report" in it] + ["dropped" for it in answer["steps"] if it.get("cover")]
+    return [it["seen"] for it in listed if it.get("seen")] + told + ["misuse" for it in answer["steps"] if "misuse" in it]

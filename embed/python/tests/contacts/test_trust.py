@@ -2,6 +2,7 @@
 
 from __future__ import annotations
 
+import hashlib
 import re
 import subprocess
 from pathlib import Path
@@ -11,7 +12,8 @@ import pytest
 
 pytest.importorskip("nacl.signing")
 
-from coniks import contacts
+from coniks import client, contacts
+from coniks.client import Client
 from coniks.notes import Auditor
 from coniks.trust import Trust
 from directories import Directory
@@ -34,6 +36,21 @@ def test_example() -> None:
     assert (trust.policy.hex(), trust.faulty) == (POLICY_DIGEST, 0)
     assert [it.name for it in trust.auditors] == ["audit.example.com", "audit.example.org"]
     assert bytes(Trust(trust.policy, trust.auditors[::-1], 0)) == EXAMPLE, "the order is no matter"
+
+
+def test_of_client() -> None:
+    """What a client needs of it: the digest, the numbers, and each auditor's place among the lines."""
+    trust = Trust.read(EXAMPLE)
+    assert trust.of_client == client.Trust(hashlib.sha256(EXAMPLE).digest(), 2, 0)
+    turned = Trust(trust.policy, trust.auditors[::-1], 0)
+    assert [turned.place(it) for it in trust.auditors] == [trust.place(it) for it in trust.auditors] == [0, 1]
+    for other in (ONE, Auditor("audit.example.org", ONE.key)):
+        with pytest.raises(ValueError):
+            trust.place(other)
+    auditors = tuple(AUDITORS.values())
+    assert Trust(trust.policy, auditors, 1).of_client.faulty == 1
+    named = Client(POLICY.signing_key, POLICY.vrf_key, POLICY, trust=Trust(POLICY.digest, auditors, 1).of_client)
+    assert named.confirmed is None
 
 
 LINES = EXAMPLE.decode().splitlines(keepends=True)

@@ -1,0 +1,172 @@
+"""The binding of include/coniks_core.h, the core of a client. That header says what each struct and each call is, and the core decides
+what a client accepts. Nothing is decided here."""
+
+from __future__ import annotations
+
+import ctypes
+import enum
+from ctypes import POINTER, c_char_p, c_size_t, c_uint8, c_uint32, c_uint64, c_void_p
+
+from . import ENTRY_LENGTH, _Bytes32, _Exports, _Library
+
+# SIZE_MAX.
+NOWHERE: int = 2 ** (8 * ctypes.sizeof(c_size_t)) - 1
+NO_EVIDENCE = 50
+
+
+class Misuse(enum.IntEnum):
+    """The statuses of a call that the caller must not make."""
+
+    NAME = 130
+    EXPECTED_KEY = 131
+    OTHER_WATCH = 132
+    NOT_WATCHING = 133
+    CHANGE_OPEN = 134
+    SAME_KEY = 135
+    NOT_LATER = 136
+    NO_ROOM = 137
+    NO_AUDITOR = 138
+    NOT_CONFIRMED = 139
+    HAS_ENTRIES = 140
+    NO_QUORUM = 141
+    MANY_HEADS = 142
+    NO_STATE = 143
+
+
+class Kept(ctypes.Structure):
+    _fields_ = [("entry", c_uint8 * ENTRY_LENGTH), ("first_seen", c_uint8 * 8), ("seen", c_uint8)]
+
+
+class Change(ctypes.Structure):
+    _fields_ = [("last_old", c_uint64), ("first_new", c_uint64), ("key", c_void_p), ("key_length", c_size_t)]
+
+
+class Alarm(ctypes.Structure):
+    _fields_ = [("epoch", c_uint64), ("seen", c_uint8)]
+
+
+class Watch(ctypes.Structure):
+    _fields_ = [
+        *[("is_watched", c_uint32), ("name", c_void_p), ("name_length", c_size_t), ("since", c_uint64)],
+        *[("key", c_void_p), ("key_length", c_size_t)],
+    ]
+
+
+class Present(ctypes.Structure):
+    _fields_ = [
+        *[("has_clock", c_uint32), ("start", c_uint64), ("period", c_uint64), ("max_age", c_uint64), ("skew", c_uint64)],
+        ("time", c_uint64),
+    ]
+
+
+class Asking(ctypes.Structure):
+    _fields_ = [
+        *[("name", c_char_p), ("name_length", c_size_t), ("reply", c_char_p), ("reply_length", c_size_t)],
+        *[("is_asked", c_uint32), ("epoch", c_uint64)],
+    ]
+
+
+class Verdicts(ctypes.Structure):
+    _fields_ = [("signature", c_uint32), ("index", c_uint32), ("at", _Bytes32)]
+
+
+class Needs(ctypes.Structure):
+    _fields_ = [("signature", c_uint32), ("entry_start", c_size_t), ("vrf_start", c_size_t), ("vrf_length", c_size_t)]
+
+
+class Found(ctypes.Structure):
+    _fields_ = [("place", c_size_t), ("shows", c_uint32), ("seen", c_uint32), ("key_start", c_size_t), ("key_length", c_size_t)]
+
+
+class Why(ctypes.Structure):
+    _fields_ = [("status", c_uint32), ("kind", c_uint32), ("mine", c_size_t)]
+
+
+class Head(ctypes.Structure):
+    _fields_ = [("is_there", c_uint32), ("epoch", c_uint64), ("link", _Bytes32)]
+
+
+class Promise(ctypes.Structure):
+    _fields_ = [("is_limited", c_uint32), ("seconds", c_uint64)]
+
+
+class Report(ctypes.Structure):
+    _fields_ = [("verdict", c_uint32), ("first", c_uint64), ("last", c_uint64)]
+
+
+class Covered(ctypes.Structure):
+    _fields_ = [("epochs", c_size_t), ("first", c_uint64), ("last", c_uint64), ("changes", c_size_t), ("alarms", c_size_t)]
+
+
+class History(ctypes.Structure):
+    _fields_ = [("name", c_char_p), ("name_length", c_size_t), ("history", c_char_p), ("history_length", c_size_t)]
+
+
+class HistoryNeeds(ctypes.Structure):
+    _fields_ = [("vrf_start", c_size_t), ("vrf_length", c_size_t)]
+
+
+class Siblings(ctypes.Structure):
+    _fields_ = [("strings", c_uint8 * 32 * 256)]
+
+
+class Step(ctypes.Structure):
+    _fields_ = [("place", c_size_t), ("key", c_void_p), ("key_length", c_size_t), ("shows", c_uint32), ("seen", c_uint32)]
+
+
+class Saved(ctypes.Structure):
+    _fields_ = [
+        *[("kept", POINTER(Kept)), ("count", c_size_t), ("watch", Watch), ("changes", POINTER(Change)), ("change_count", c_size_t)],
+        *[("alarms", POINTER(Alarm)), ("alarm_count", c_size_t), ("trust", _Bytes32)],
+        *[("marks", POINTER(c_uint64)), ("mark_count", c_size_t)],
+    ]
+
+
+class StateNeeds(ctypes.Structure):
+    _fields_ = [
+        *[("kept", c_size_t), ("changes", c_size_t), ("alarms", c_size_t), ("entry_start", c_size_t), ("entry_step", c_size_t)]
+    ]
+
+
+# What several calls take: bytes, an array with its count, and an array with its room and its count, which is written.
+_32, _run, _size, _why, _watch = POINTER(_Bytes32), [c_char_p, c_size_t], POINTER(c_size_t), POINTER(Why), POINTER(Watch)
+_kept, _changes, _alarms = ([POINTER(it), c_size_t] for it in (Kept, Change, Alarm))
+_all_kept, _all_changes, _all_alarms = ([*it, _size] for it in (_kept, _changes, _alarms))
+_marks, _clock = [POINTER(c_uint64), c_size_t], [POINTER(Present), POINTER(Promise)]
+_entry = [*_run, c_uint32, c_uint64, _why]
+_asked, _told = [POINTER(Asking), POINTER(Verdicts)], [POINTER(Found), _why]
+_past = [POINTER(History), POINTER(Verdicts), POINTER(Siblings), POINTER(Step), c_size_t, _size]
+_exports: _Exports = [
+    ("coniks_core_feed", c_uint32, [_32, *_all_kept, _watch, *_marks, *_entry]),
+    ("coniks_core_reply_needs", c_uint32, [*_kept, *_run, POINTER(Needs)]),
+    ("coniks_core_lookup", c_uint32, [_32, POINTER(Present), *_kept, _watch, *_changes, *_asked, *_told]),
+    ("coniks_core_watch", c_uint32, [*_kept, _watch, *_changes, _watch, c_uint32]),
+    ("coniks_core_expect", c_uint32, [*_kept, _watch, *_all_changes, *_run, c_uint64]),
+    ("coniks_core_compare", c_uint32, [*_kept, c_uint64, _32, _size]),
+    ("coniks_core_evidence", c_uint32, [*_kept, *_run, c_uint32, _why]),
+    ("coniks_core_quorum", c_size_t, [c_size_t, c_size_t]),
+    ("coniks_core_mark", c_uint32, [*_kept, *_marks, c_size_t, c_uint64, _32]),
+    ("coniks_core_confirmed", c_uint32, [*_marks, c_size_t, POINTER(c_uint64)]),
+    ("coniks_core_relied", c_uint32, [*_kept, c_size_t, *_marks, c_size_t]),
+    ("coniks_core_start", c_uint32, [_32, *_all_kept, _watch, POINTER(Head), c_size_t, c_size_t, *_entry]),
+    (
+        "coniks_core_cover",
+        c_uint32,
+        [*_clock, *_all_kept, *_marks, c_size_t, _watch, *_all_changes, *_all_alarms, POINTER(Covered)],
+    ),
+    ("coniks_core_note", c_uint32, [*_all_alarms, c_uint64]),
+    ("coniks_core_report", c_uint32, [_clock[0], *_kept, _watch, _clock[1], *_alarms, *_marks, c_size_t, POINTER(Report)]),
+    ("coniks_core_lost", c_uint32, [*_clock, *_kept, c_size_t]),
+    ("coniks_core_catch_up", c_uint32, [*_run, _size]),
+    ("coniks_core_history_needs", c_uint32, [*_run, POINTER(HistoryNeeds)]),
+    ("coniks_core_history", c_uint32, [*_kept, _watch, *_changes, *_past]),
+    ("coniks_core_state_size", c_uint32, [_32, POINTER(Saved), _size]),
+    ("coniks_core_state_write", c_uint32, [_32, POINTER(Saved), c_void_p, c_size_t, _size]),
+    ("coniks_core_state_needs", c_uint32, [_32, *_run, POINTER(StateNeeds)]),
+    (
+        "coniks_core_state_read",
+        c_uint32,
+        [_32, *_run, POINTER(c_uint32), c_size_t, _32, *_all_kept, _watch, *_all_changes, *_all_alarms, *_marks],
+    ),
+]
+library = _Library(_exports)
