@@ -8,7 +8,7 @@ from dataclasses import dataclass, field
 from typing import Any, Mapping, Optional
 
 from . import Body, Head
-from ._http import Unusable, fetched, new_entries
+from ._http import Unusable, fetched, is_signed_again, new_entries
 from ._person import Alarm, Person
 from ._telling import UNVERIFIED
 from .client import Cause, Comparison, Refusal
@@ -49,6 +49,8 @@ class Confirming:
         if not heads:
             for url, auditor in it.auditors.items():
                 it.tried(lambda: heads.update({url: self._head(auditor, read_note(fetched(f"{url}/v1/note", _NOTE)), url)}), 0)
+        # If the latest entry was signed again meanwhile, heads of its first signature confirm nothing.
+        heads = {url: head for url, head in heads.items() if it.chain.compare(head) is Comparison.EQUAL}
         if len(heads) < least:
             text = f"{len(heads)} of your {count} auditors confirm this chain, and {least} must: rely on nothing new"
             members = {"agreeing": len(heads), "needed": least}
@@ -90,6 +92,7 @@ class Confirming:
         if url and found is not Comparison.EQUAL:
             with suppress(Unusable):
                 self._search(url)
+            found = person.chain.compare(head)
         if url and found is Comparison.DIFFERS:
             text = f"{auditor.name} has cosigned another chain, at epoch {head.epoch}: it lies, or others are shown another chain"
             raise Alarm(text, "head", bytes(note.of(auditor)))
@@ -113,8 +116,11 @@ class Confirming:
         raise BadNote(f"{auditor.name} has cosigned no head lately")
 
     def _search(self, url: str) -> None:
-        """Looks for an entry that convicts the directory among all that an auditor has."""
+        """Looks for an entry that convicts the directory among all that an auditor has, and takes its latest one if that was signed
+        again."""
         chain = self._person.chain
-        for entry in new_entries(chain, url, is_whole=True):
+        for entry in new_entries(chain, url, is_whole=True, again=True):
             if evidence := chain.evidence(entry):
                 raise Refusal(Cause.EQUIVOCATION, None, evidence)
+            if is_signed_again(entry, chain.entries[-1]):
+                chain.feed([entry])

@@ -98,12 +98,20 @@ def check_time(client: Client, policy: Policy, entry: bytes, source: str) -> Non
         raise Unusable(f"{source} shows epoch {epoch}, which begins later than now: its clock is ahead, or yours is slow")
 
 
-def new_entries(client: Client, source: str, is_whole: bool = False) -> Iterator[bytes]:
+def is_signed_again(entry: bytes, latest: bytes) -> bool:
+    """Whether an entry has the body of a client's latest one, and other bytes."""
+    return entry[:BODY_LENGTH] == latest[:BODY_LENGTH] and entry != latest
+
+
+def new_entries(client: Client, source: str, is_whole: bool = False, again: bool = False) -> Iterator[bytes]:
     """The entries that a service or an auditor has and a client lacks. They are asked for from the client's latest one on, so that
-    another one in its place is noticed; or from the first one on, since only whole entries convict. Raises `Unusable` and `Refusal`. A
-    source that never ends is left after some pages or minutes, and the next call goes on.
+    another one in its place is noticed; or from the first one on, since only whole entries convict. With `again` the latest one is among
+    them if its body was signed again. Raises `Unusable` and `Refusal`. A source that never ends is left after some pages or minutes, and
+    the next call goes on.
     """
-    known, latest = {it[:BODY_LENGTH] for it in client.entries}, (client.entries or [bytes(ENTRY_LENGTH)])[-1]
+    entries = client.entries
+    latest = (entries or [bytes(ENTRY_LENGTH)])[-1]
+    known = {it[:BODY_LENGTH] for it in entries}
     start = after = 0 if is_whole else int.from_bytes(latest[9:17], "big")
     pages, until = 0, time.monotonic() + LONGEST
     while page := entries_of(fetched(f"{source}/v1/entries?after={after}")):
@@ -113,7 +121,7 @@ def new_entries(client: Client, source: str, is_whole: bool = False) -> Iterator
         epochs = [after, *(int.from_bytes(it[1:9], "big") for it in page)]
         if epochs != sorted(set(epochs)):
             raise Unusable(f"{source}: its entries do not rise")
-        yield from (it for it in page if it[:BODY_LENGTH] not in known)
+        yield from (it for it in page if it[:BODY_LENGTH] not in known or (again and is_signed_again(it, latest)))
         after = epochs[-1]
     if known and after == start:
         raise Unusable(f"{source} shows an older chain than before: it is late, or hides epochs")

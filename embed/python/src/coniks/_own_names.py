@@ -56,10 +56,16 @@ class Own:
         lost = set(self.client.lost)
         return [it for it in self.client.missing if it not in lost]
 
+    @property
+    def unverified(self) -> list[int]:
+        """The epochs that can no longer be verified: those that were dropped, and kept ones."""
+        return [it.epoch for it in self.client.alarms if it.seen is Watched.MISSING] + self.client.lost
+
     def feed(self, entries: Sequence[bytes]) -> None:
-        """Takes the entries of the chain that this name's client lacks."""
-        head = self.client.head()
-        self.client.feed([it for it in entries if head is None or Body.of_entry(it).epoch > head.epoch])
+        """Takes the entries of the chain that this name's client lacks, and its latest one if that was signed again."""
+        head, latest = self.client.head(), self.client.entries[-1:]
+        since = head.epoch if head else 0
+        self.client.feed([it for it in entries if Body.of_entry(it).epoch >= since and it not in latest])
 
 
 @dataclass(frozen=True)
@@ -246,7 +252,7 @@ class OwnNames:
 
     def _tell_lost(self, name: str, own: Own) -> None:
         """Tells the epochs that can no longer be verified. It is status 3 once."""
-        lost = own.client.lost
+        lost = own.unverified
         if lost:
             status = UNVERIFIED if set(lost) - set(own.lost) else 0
             self._person.tell(f"{shown(name)}: {in_words(lost)} can no longer be verified", status, lost=lost)

@@ -101,9 +101,9 @@ class Person:
         return found.body
 
     def follow(self) -> None:
-        """Takes all entries that the service has."""
+        """Takes all entries that the service has, also a latest one that was signed again: the next one may link to it."""
         try:
-            for entry in new_entries(self.chain, self.state["service"]):
+            for entry in new_entries(self.chain, self.state["service"], again=True):
                 check_time(self.chain, self.policy, entry, "the service")
                 self.chain.feed([entry])
         finally:

@@ -10,7 +10,7 @@ import pytest
 pytest.importorskip("nacl.signing")
 
 from client_world import hour
-from directories import Directory, Reply
+from directories import Directory, Reply, sign_again
 from people import AUDITORS, FORKS, KEYS, NOW, POLICY, WORLD, Auditing, Clock, Person, convicted
 from coniks import Head, contacts
 from coniks._client_state import StateFile
@@ -159,6 +159,21 @@ def test_lagging_auditors(
     for a in auditors:
         a.sign(2)
     assert it.run("compare")[1][-1]["agreed"] == 2 and len(it.stored()["chain"]) == size - 2 * 218
+    assert it.run("lookup", "alice")[0] == 0
+
+
+def test_signed_again(tmp_path: Path, capsys: pytest.CaptureFixture[str], directory: Directory, auditors: list[Auditing]) -> None:
+    """Auditors that have another signature of the latest entry have no other chain. Heads of both signatures don't count together."""
+    it = Person(tmp_path, capsys)
+    it.begin(directory, auditors[0].pair, auditors[1].pair)
+    sign_again(directory.world, 2)
+    assert it.run("lookup", "alice")[0] == 0, "the service has the other one"
+    sign_again(auditors[1].world, 2)
+    auditors[1].sign(2)
+    status, lines = it.run("lookup", "alice")
+    assert status == 3 and "1 of your 2 auditors" in lines[-1]["text"] and not it.stored()["found"], lines
+    auditors[0].world = auditors[1].world
+    auditors[0].sign(2)
     assert it.run("lookup", "alice")[0] == 0
 
 

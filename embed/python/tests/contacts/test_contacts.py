@@ -21,11 +21,12 @@ pytest.importorskip("nacl.signing")
 import client_world
 import vouched
 from client_world import World, hour
-from directories import Directory, Reply, vouched_world
+from directories import Directory, Reply, sign_again, vouched_world
 from people import AUDITORS, FORKS, KEYS, POLICY, WORLD, Auditing, Clock, Person, convicted
 from sources import dripping
-from coniks import _http, _own_names, _person, contacts
+from coniks import Head, Policy, _http, _own_names, _person, contacts
 from coniks._client_state import StateFile
+from coniks.notes import Note, cosign, text_of
 from coniks.vouching import Place, first, following
 
 TOP = Path(__file__).resolve().parents[4]
@@ -816,6 +817,47 @@ def test_lost_epochs(tmp_path: Path, capsys: pytest.CaptureFixture[str], clock: 
         status, lines = it.run("watch")
         assert status == 3 and lines[0]["text"] == '"dave": epochs 3 to 6 can no longer be verified'
         assert lines[1]["epochs"] == [7, 8] and it.run("watch")[0] == 0, "the rest goes on"
+
+
+def test_dropped_epochs(tmp_path: Path, capsys: pytest.CaptureFixture[str], clock: Clock) -> None:
+    """Lost epochs keep no later one once the auditors confirm it, and are told by the same sentence ever after."""
+    text = client_world.policy_text(kept=7200)
+    it, policy = Person(tmp_path, capsys, text), Policy.read(text.encode())
+    with Directory(policy=text) as directory:
+
+        def confirm(epoch: int) -> None:
+            head = text_of(policy, Head(epoch, directory.world.link(epoch)))
+            directory.note = bytes(Note(head, tuple(cosign(name, KEYS[name], head, clock()) for name in ("one", "two"))))
+
+        confirm(2)
+        assert it.begin(directory, *[(f"https://{name}.example", str(AUDITORS[name])) for name in ("one", "two")]) == 0
+        assert it.run("register", "dave", "key one")[0] == 0
+        directory.batches += [(epoch, {}) for epoch in range(4, 9)]
+        directory.renew()
+        directory.lies["/v1/history"] = lambda query: Reply(b"", 503)
+        clock.seconds = hour(9)
+        confirm(8)
+        sentence = '"dave": epochs 4 to 6 can no longer be verified'
+        for is_promised_shown, count in [(False, 2), (False, 2), (True, 1)]:
+            if is_promised_shown:
+                del directory.lies["/v1/history"]
+            status, lines = it.run("watch")
+            assert status == (0 if is_promised_shown else 3), lines
+            assert [line["text"] for line in lines if "lost" in line] == [sentence], lines
+            assert int.from_bytes(bytes.fromhex(it.stored()["own"]["dave"]["client"])[33:37], "big") == count
+        assert [line["epochs"] for line in lines if "key" in line] == [[7, 8]], "epoch 7 can still be verified"
+
+
+def test_signed_again(person: Person, directory: Directory) -> None:
+    """The next entry may link to another signature of the latest one: the chain goes on with that, and so does an own name."""
+    assert person.run("register", "dave", "key one")[0] == 0
+    directory.commit(4)
+    sign_again(directory.world, 3)
+    status, lines = person.run("watch")
+    assert status == 0 and lines[0]["epochs"] == [4], lines
+    assert person.run("lookup", "dave")[0] == 0 and not person.stored()["found"]
+    sign_again(directory.world, 4)
+    assert person.run("watch")[0] == 0, "the latest one"
 
 
 def test_two_under_way(person: Person, directory: Directory) -> None:
