@@ -96,9 +96,10 @@ class AlarmClient(Client):
     # What is dropped, and what is reported.
 
     def covered_by(self, epoch: int, link: bytes, now: int) -> Answer:
-        """Drops as if a quorum confirmed the epoch of an equal head. A client without a trust document does."""
+        """Drops as if a quorum confirmed the epoch of an equal head. A client that names its auditors only compares it: one of them confirms
+        nothing."""
         found = self.compare(epoch, link)
-        if found["compare"] == "equal":
+        if found["compare"] == "equal" and not self.trust.auditors:
             self.dropped(self.droppable(now, epoch))
         return found
 

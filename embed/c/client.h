@@ -315,7 +315,8 @@ uint32_t coniks_client_compare(const coniks_client *client, const coniks_client_
 /*
  * Drops the entries before that of an auditor's head, if it is one of this chain: the auditor's chain has them. Epochs that are missing
  * and not lost stay, with what follows them. Each dropped watched epoch that was not the same leaves an alarm. Returns what
- * coniks_client_compare does. A client with a trust document calls coniks_client_mark and coniks_client_drop.
+ * coniks_client_compare does. A client with a trust document only compares, since one auditor confirms nothing: call coniks_client_mark
+ * and coniks_client_drop.
  */
 CONIKS_NODISCARD CONIKS_NONNULL((1, 2))
 uint32_t coniks_client_cover(coniks_client *client, const coniks_client_head *head);

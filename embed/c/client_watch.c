@@ -122,7 +122,7 @@ uint32_t coniks_client_cover(coniks_client *client, const coniks_client_head *he
 {
     coniks_covered covered;
     uint32_t status, found = coniks_client_compare(client, head);
-    if (found != CONIKS_CLIENT_EQUAL)
+    if (found != CONIKS_CLIENT_EQUAL || client->auditors)
         return found;
     status = drop(client, &head->epoch, 1, 1, &covered);
     return status ? status : found;

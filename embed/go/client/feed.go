@@ -143,12 +143,12 @@ func (it *Client) Compare(head coniks.Head) Comparison {
 
 // Cover drops the entries before that of an auditor's head, if Compare finds it equal: the auditor's chain has them. Epochs that are
 // missing and not lost stay, with what follows them. Each dropped watched epoch that was not the same leaves an alarm. With Trust in the
-// Settings, call Mark and Drop instead.
+// Settings it only compares, since one auditor confirms nothing: call Mark and Drop.
 func (it *Client) Cover(head coniks.Head) Comparison {
 	it.mutex.Lock()
 	defer it.mutex.Unlock()
 	found := Comparison(it.memory.compare(head))
-	if found == Equal {
+	if found == Equal && it.quorum == 0 {
 		it.drop([]C.uint64_t{C.uint64_t(head.Epoch)}, 1)
 	}
 	return found

@@ -44,7 +44,7 @@ import enum
 import math
 import time
 from dataclasses import dataclass
-from typing import Any, Callable, Iterable, Iterator, Mapping, NoReturn, Optional, Union
+from typing import Any, Callable, Iterable, Iterator, Mapping, NoReturn, Optional, Sequence, Union
 
 from . import ENTRY_LENGTH, EvidenceKind, Head, Name, Policy, Status, _bytes, _bytes32, _core, _name, _number, convicts, link
 from ._core import library
@@ -107,7 +107,6 @@ _MISSING = 5
 _COMPARED = dict(enumerate(Comparison, 1))
 _REPORTED = dict(enumerate(Reported, 1))
 _SHOWS_KEY = 1
-_PLACE = "the place of an auditor"
 
 
 @dataclass(frozen=True)
@@ -203,7 +202,7 @@ class Client:
         vrf_key: Union[bytes, IndexScheme, None],
         policy: Union[bytes, Policy],
         entry: bytes,
-        heads: Mapping[Any, Head],
+        heads: Mapping[str, Head],
         least: int,
         *,
         max_age: Optional[float] = None,
@@ -212,12 +211,11 @@ class Client:
         trust: Optional[Trust] = None,
     ) -> Client:
         """Returns a client whose chain begins with an entry that at least so many auditors have. `heads` has the head of each
-        auditor for that entry's epoch, by the auditor's name; get each from the auditor itself. With `trust` they are by the auditor's
-        place, and `least` is the quorum: each head is marked."""
+        auditor for that entry's epoch, by the auditor's name; get each from the auditor itself. With `trust`, call `mark` with each of
+        them afterwards."""
         client = cls(signing_key, vrf_key, policy, max_age=max_age, skew=skew, clock=clock, trust=trust)
-        places: Iterable[Any] = heads if trust else range(len(heads))
-        named = {_number(place, 32, _PLACE): parts_of(head) for place, head in zip(places, heads.values())}
-        client._start(_bytes(entry, "an entry"), named, _number(least, 32, "how many auditors vouch"))
+        rows = rows_of([*map(parts_of, heads.values())])
+        client._start(_bytes(entry, "an entry"), rows, _number(least, 32, "how many auditors vouch"))
         return client
 
     def __reduce__(self) -> NoReturn:
@@ -241,17 +239,14 @@ class Client:
         self._check(status, why, entry)
         return Step(memory.epoch(-1), _WATCHED[memory.kept[-1].seen])
 
-    def _start(self, entry: bytes, heads: Mapping[int, tuple[int, Any]], least: int) -> None:
-        """Begins with an entry that auditors have, whose heads are by their places."""
-        rows = rows_of(heads, self._trust.auditors if self._trust else len(heads))
+    def _start(self, entry: bytes, rows: Any, least: int) -> None:
+        """Begins with an entry that auditors have, whose heads these are."""
         is_signed, now, why, memory = self._verifier.of_entry(entry), self._second(), _core.Why(), self._memory
         memory.kept.reserve(1)
         status = library.coniks_core_start(
             self._digest, *memory.kept.all, memory.watch, rows, len(rows), least, entry, len(entry), is_signed, now, why
         )
         self._check(status, why, entry)
-        for place, head in heads.items() if self._trust else ():
-            self._mark(place, head)
 
     def _check(self, status: int, why: _core.Why, entry: bytes) -> None:
         """Raises what a status says of an entry."""
@@ -281,12 +276,10 @@ class Client:
 
     def cover(self, head: Head) -> Comparison:
         """Drops the entries before that of an auditor's head, if it is one of this chain: the auditor's chain has them. Epochs
-        that are missing stay, with what follows them, unless they are lost: of these an alarm stays. A client with `trust` raises
-        ValueError: it has `mark` and `drop`."""
-        if self._trust:
-            raise ValueError("one auditor confirms nothing for a client that names its auditors: call `mark` and `drop`")
+        that are missing stay, with what follows them, unless they are lost: of these an alarm stays. A client with `trust` only compares,
+        since one auditor confirms nothing: call `mark` and `drop`."""
         found = self.compare(head)
-        if found is Comparison.EQUAL:
+        if found is Comparison.EQUAL and not self._trust:
             self._drop((ctypes.c_uint64 * 1)(head.epoch), 1, 1)
         return found
 
@@ -306,10 +299,8 @@ class Client:
     def mark(self, auditor: int, head: Head) -> Comparison:
         """Compares a head that an auditor cosigned, as `compare` does, and remembers its epoch if they are equal. The auditor is the one
         at this place of the trust document. Verify the cosignature first. Raises ValueError if there is no such auditor."""
-        return self._mark(_number(auditor, 32, _PLACE), parts_of(head))
-
-    def _mark(self, place: int, head: tuple[int, Any]) -> Comparison:
-        found = library.coniks_core_mark(*self._memory.kept.present, *self._memory.marks, place, *head)
+        place, memory = _number(auditor, 32, "the place of an auditor"), self._memory
+        found = library.coniks_core_mark(*memory.kept.present, *memory.marks, place, *parts_of(head))
         if found not in _COMPARED:
             check(found)
         return _COMPARED[found]
@@ -510,14 +501,9 @@ def parts_of(head: Any) -> tuple[int, Any]:
     return _number(head.epoch, 64, "the epoch"), _bytes32(head.link, "the link")
 
 
-def rows_of(heads: Mapping[int, tuple[int, Any]], auditors: int) -> Any:
-    """The heads of auditors by their places, as the core takes them."""
-    rows = (_core.Head * auditors)()
-    for place, (epoch, of_head) in heads.items():
-        if place >= auditors:
-            raise ValueError(MISUSES[_core.Misuse.NO_AUDITOR])
-        rows[place] = _core.Head(1, epoch, of_head)
-    return rows
+def rows_of(heads: Sequence[tuple[int, Any]]) -> Any:
+    """The heads of auditors as the core takes them."""
+    return (_core.Head * len(heads))(*(_core.Head(1, epoch, of_head) for epoch, of_head in heads))
 
 
 def expected_key(key: Optional[bytes]) -> bytes:

@@ -15,7 +15,7 @@ pytest.importorskip("hypothesis")
 from hypothesis import given, strategies
 
 import case_runner
-import twin
+import client_alarms
 from alterations import Alterer, causes_in, verdict
 
 
@@ -25,7 +25,7 @@ def test_alterations(say: Callable[[str], None]) -> None:
     @given(strategies.randoms(use_true_random=False))
     def is_same(chance: random.Random) -> None:
         case = alterer.altered(chance)
-        mine, theirs = verdict(case_runner.verdicts, copy.deepcopy(case)), verdict(twin.verdicts, case)
+        mine, theirs = verdict(case_runner.verdicts, copy.deepcopy(case)), verdict(client_alarms.verdicts, case)
         assert isinstance(mine, dict), (mine, case)
         assert mine == theirs, case
         seen.update(["", *causes_in(mine)])

@@ -6,7 +6,7 @@ import pytest
 
 pytest.importorskip("nacl.signing")
 
-import twin
+import client_alarms
 from case_runner import Answer, Clock, alarm_cases, begun, cases, shared_cases, verdicts
 from client import plain
 from client_alarms import OTHERWISE
@@ -25,7 +25,7 @@ def test_shared(case: Answer) -> None:
     """All but the state, which has another version. Two cases have other steps too: an entry is signed again, and `cover` drops a lost
     epoch, which keeps all later ones with states of version 02, and can still be looked up."""
     found = verdicts(case)
-    assert found == twin.verdicts(case)
+    assert found == client_alarms.verdicts(case)
     is_same = all(plain(found)[it] == case["gives"][it] for it in ("begin", "steps"))
     assert is_same == (case["name"] not in OTHERWISE)
 

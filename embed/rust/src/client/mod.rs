@@ -323,10 +323,10 @@ impl Client {
 
     /// Drops the entries before that of an auditor's head, if it is one of this chain: the auditor's chain has them. Epochs that are
     /// missing and not lost stay, with what follows them. Each dropped watched epoch that was not the same leaves an alarm. With
-    /// [`Settings::trust`], call [`Client::mark`] and [`Client::drop_confirmed`] instead.
+    /// [`Settings::trust`] it only compares, since one auditor confirms nothing: call [`Client::mark`] and [`Client::drop_confirmed`].
     pub fn cover(&mut self, head: &Head) -> Comparison {
         let found = self.compare(head);
-        if found == Comparison::Equal {
+        if found == Comparison::Equal && self.trust.is_none() {
             self.drop_until(Some((&[head.epoch], 1)));
         }
         found
