@@ -377,6 +377,8 @@ static void catch_up(struct answerer *it)
 
 static void print_found(const coniks_client_found *found)
 {
+    if ((found->shows == CONIKS_CLIENT_KEY) != (found->key != NULL))
+        fail("a key that is not shown, or none that is");
     printf(" %llu ", (unsigned long long)found->epoch);
     if (found->shows == CONIKS_CLIENT_KEY)
         print_bytes(found->key, found->key_length);

@@ -24,11 +24,14 @@ static void check(int is_well, const char *what, int line)
     failures++;
 }
 
-/* How much is allocated at most at once, and what a scheme returns. */
+/* How much is allocated at most at once and how often it still is, what a scheme returns, and what it was given last. */
 struct told {
-    size_t largest;
+    size_t largest, granted;
     uint64_t now;
     int result;
+    size_t verified; /* how many signatures */
+    uint8_t entry[CONIKS_ENTRY_BYTES];
+    struct slice name, proof;
 };
 
 static void *allocate(void *context, size_t size)
@@ -36,6 +39,9 @@ static void *allocate(void *context, size_t size)
     struct told *told = context;
     if (size > told->largest)
         told->largest = size;
+    if (told->granted == 0)
+        return NULL;
+    told->granted--;
     return malloc(size);
 }
 
@@ -52,20 +58,21 @@ static uint64_t clock_of(void *context)
 
 static int verify(void *context, const uint8_t *body, const uint8_t *signature)
 {
-    (void)body;
-    (void)signature;
-    return ((const struct told *)context)->result;
+    struct told *told = context;
+    memcpy(told->entry, body, CONIKS_BODY_BYTES);
+    memcpy(told->entry + CONIKS_BODY_BYTES, signature, CONIKS_SIGNATURE_BYTES);
+    told->verified++;
+    return told->result;
 }
 
 static int find(void *context, const uint8_t *name, size_t name_length, const uint8_t *proof, size_t proof_length,
                 coniks_bytes32 *index)
 {
-    (void)name;
-    (void)name_length;
-    (void)proof;
-    (void)proof_length;
+    struct told *told = context;
+    told->name = client_slice_of(name, name_length);
+    told->proof = client_slice_of(proof, proof_length);
     memset(index, 7, sizeof *index);
-    return ((const struct told *)context)->result;
+    return told->result;
 }
 
 static size_t read_digits(const char *digits, uint8_t *bytes)
@@ -90,6 +97,7 @@ static void begin_settings(coniks_client_settings *settings, struct told *told)
 {
     memset(told, 0, sizeof *told);
     told->now = START + PERIOD + 60;
+    told->granted = SIZE_MAX;
     coniks_client_begin_settings(settings);
     settings->signing_key = &signing_key;
     settings->vrf_key = &vrf_key;
@@ -145,14 +153,14 @@ static void try_examples(void)
     coniks_client *client = fed(&told);
     coniks_client_found found[3];
     size_t count = 7;
-    uint64_t epoch = 9, missing[2];
+    uint64_t epoch = 9, missing[2] = {7, 7};
     CHECK(coniks_client_lookup(client, NAME("alice"), reply, reply_length, NULL, &found[0], NULL) == 0);
     CHECK(found[0].shows == CONIKS_CLIENT_KEY && found[0].key == reply + 370 && found[0].key_length == 1);
     CHECK(found[0].epoch == 2 && found[0].has_age && found[0].age == 60 && found[0].first_seen == told.now);
     CHECK(look_up(client, reply, reply_length, &epoch) == CONIKS_CLIENT_E_UNKNOWN_EPOCH);
     epoch = 1;
     CHECK(coniks_client_watch(client, NAME("alice"), (const uint8_t *)"K", 1, &epoch) == 0);
-    CHECK(coniks_client_missing(client, missing, 1) == 2 && missing[0] == 1);
+    CHECK(coniks_client_missing(client, missing, 1) == 2 && missing[0] == 1 && missing[1] == 7);
     CHECK(coniks_client_history(client, NAME("alice"), history, history_length, found, 1, &count) == CONIKS_CLIENT_E_ROOM);
     CHECK(count == 0 && is_zero(found, sizeof found[0]) && coniks_client_missing(client, NULL, 0) == 2);
     CHECK(coniks_client_history(client, NAME("alice"), history, history_length, found, 2, &count) == 0 && count == 2);
@@ -191,6 +199,33 @@ static void try_state(void)
         again[at] ^= 1;
     }
     CHECK(coniks_client_resume(&client, &settings, NULL, 0) == CONIKS_CLIENT_E_STATE_LENGTH);
+    again[255 + CONIKS_BODY_BYTES] ^= 1;
+    read_digits(UNSIGNED, again + state_length - HASH_BYTES);
+    CHECK(coniks_client_resume(&client, &settings, again, state_length) == CONIKS_CLIENT_E_STATE_CHAIN && client == NULL);
+}
+
+/* A client has copies of the name and of both keys in a state, and without memory for them there is none. */
+static void try_copies(void)
+{
+    static uint8_t changed[ROOM], again[ROOM];
+    coniks_client_settings settings;
+    struct told told;
+    coniks_client *client;
+    size_t length, again_length, granted = 0;
+    uint32_t status;
+    memcpy(changed, state, WATCHED);
+    length = WATCHED + read_digits(WATCH, changed + WATCHED);
+    memcpy(again, changed, length);
+    begin_settings(&settings, &told);
+    do {
+        told.granted = granted++;
+        status = coniks_client_resume(&client, &settings, again, length);
+        CHECK(status == (client ? 0 : CONIKS_CLIENT_E_MEMORY));
+    } while (status);
+    memset(again, 0xaa, length);
+    CHECK(coniks_client_state(client, again, length, &again_length) == 0 && again_length == length);
+    CHECK(memcmp(again, changed, length) == 0);
+    coniks_client_free(client);
 }
 
 /* The example's state with an alarm and marks, and what becomes of both. */
@@ -233,6 +268,9 @@ static void try_marks(void)
     settings.auditors = 3;
     CHECK(coniks_client_resume(&client, &settings, marked, length) == 0);
     CHECK(coniks_client_confirmed(client, &epoch) == CONIKS_CLIENT_E_NOT_CONFIRMED);
+    CHECK(coniks_client_mark(client, 0, &head) == CONIKS_CLIENT_EQUAL);
+    CHECK(coniks_client_relied(client, 2) == CONIKS_CLIENT_E_NOT_CONFIRMED);
+    CHECK(coniks_client_mark(client, 1, &head) == CONIKS_CLIENT_EQUAL && coniks_client_relied(client, 2) == 0);
     coniks_client_free(client);
 }
 
@@ -314,6 +352,29 @@ static void try_schemes(void)
     }
 }
 
+/* A scheme is given the parts of what it verifies. An entry that is kept is not verified once more. */
+static void try_given(void)
+{
+    coniks_client_settings settings;
+    struct told told;
+    coniks_client *client;
+    begin_settings(&settings, &told);
+    settings.signatures.verify = verify;
+    settings.signatures.context = &told;
+    settings.indices.index = find;
+    settings.indices.context = &told;
+    told.result = 1;
+    CHECK(coniks_client_new(&client, &settings) == 0);
+    CHECK(coniks_client_feed(client, state + 37, CONIKS_ENTRY_BYTES, NULL, NULL) == 0);
+    CHECK(memcmp(told.entry, state + 37, sizeof told.entry) == 0);
+    CHECK(coniks_client_feed(client, state + 255, CONIKS_ENTRY_BYTES, NULL, NULL) == 0);
+    CHECK(memcmp(told.entry, state + 255, sizeof told.entry) == 0);
+    CHECK(look_up(client, reply, reply_length, NULL) == CONIKS_E_ROOT_MISMATCH && told.verified == 2);
+    CHECK(told.name.length == 5 && memcmp(told.name.bytes, "alice", 5) == 0);
+    CHECK(told.proof.length == VRF_PROOF_BYTES && memcmp(told.proof.bytes, reply + 212, VRF_PROOF_BYTES) == 0);
+    coniks_client_free(client);
+}
+
 /* An entry with the example's policy digest after another one, signed by nobody. */
 static void make(uint64_t epoch, const coniks_client_head *before, uint8_t *entry)
 {
@@ -330,6 +391,29 @@ static void make(uint64_t epoch, const coniks_client_head *before, uint8_t *entr
     memset(entry + CONIKS_BODY_BYTES, 0, CONIKS_SIGNATURE_BYTES);
 }
 
+/* A client to which each signature is good. */
+static coniks_client *credulous(coniks_client_settings *settings, struct told *told)
+{
+    coniks_client *client;
+    begin_settings(settings, told);
+    settings->signatures.verify = verify;
+    settings->signatures.context = told;
+    told->result = 1;
+    CHECK(coniks_client_new(&client, settings) == 0);
+    return client;
+}
+
+/* Feeds the entry of an epoch after the latest one, at the end of the epoch. */
+static void feed_next(coniks_client *client, struct told *told, uint64_t epoch)
+{
+    uint8_t entry[CONIKS_ENTRY_BYTES];
+    coniks_client_head head;
+    CHECK(coniks_client_latest(client, &head) == 0 || epoch == 1);
+    told->now = START + epoch * PERIOD;
+    make(epoch, &head, entry);
+    CHECK(coniks_client_feed(client, entry, sizeof entry, NULL, NULL) == 0);
+}
+
 static void try_evidence(void)
 {
     uint8_t first[CONIKS_ENTRY_BYTES], other[1 + CONIKS_ENTRY_BYTES + 2] = {1};
@@ -337,14 +421,9 @@ static void try_evidence(void)
     coniks_client_refusal why;
     coniks_client_found found;
     struct told told;
-    coniks_client *client;
+    coniks_client *client = credulous(&settings, &told);
     coniks_client_head before = {0};
     uint64_t unknown = 9;
-    begin_settings(&settings, &told);
-    settings.signatures.verify = verify;
-    settings.signatures.context = &told;
-    told.result = 1;
-    CHECK(coniks_client_new(&client, &settings) == 0);
     make(3, &before, first);
     make(2, &before, other + 1);
     CHECK(coniks_client_feed(client, first, sizeof first, NULL, &why) == 0 && is_zero(&why, sizeof why));
@@ -354,10 +433,73 @@ static void try_evidence(void)
     CHECK(coniks_client_lookup(client, NAME("alice"), other, sizeof other, &unknown, &found, &why) ==
           CONIKS_CLIENT_E_EQUIVOCATION);
     CHECK(why.status == 0 && why.evidence.kind == CONIKS_OVERLAP && is_zero(&found, sizeof found));
+    CHECK(memcmp(why.evidence.mine, first, sizeof first) == 0 && memcmp(why.evidence.other, other + 1, sizeof first) == 0);
     before.epoch = 3;
     make(5, &before, other + 1);
     CHECK(coniks_client_feed(client, other + 1, sizeof first, NULL, &why) == CONIKS_E_PREVIOUS_LINK);
     CHECK(is_zero(&why, sizeof why) && coniks_client_count(client) == 1);
+    coniks_client_free(client);
+}
+
+/* The auditors of an entry are at most 64. */
+static void try_many_heads(void)
+{
+    coniks_client_head heads[65];
+    coniks_client_settings settings;
+    struct told told;
+    coniks_client *client = fed(&told);
+    size_t i;
+    for (i = 0; i < 65; i++)
+        CHECK(coniks_client_latest(client, &heads[i]) == 0);
+    coniks_client_free(client);
+    begin_settings(&settings, &told);
+    CHECK(coniks_client_vouched(&client, &settings, state + 255, CONIKS_ENTRY_BYTES, heads, 65, 1, NULL) ==
+          CONIKS_CLIENT_E_MANY_HEADS);
+    CHECK(client == NULL);
+    CHECK(coniks_client_vouched(&client, &settings, state + 255, CONIKS_ENTRY_BYTES, heads, 64, 65, NULL) ==
+          CONIKS_CLIENT_E_NOT_VOUCHED);
+    CHECK(client == NULL);
+    CHECK(coniks_client_vouched(&client, &settings, state + 255, CONIKS_ENTRY_BYTES, heads, 64, 64, NULL) == 0);
+    CHECK(coniks_client_count(client) == 1);
+    coniks_client_free(client);
+}
+
+/* A head of another chain drops nothing. */
+static void try_covers(void)
+{
+    struct told told;
+    coniks_client *client = fed(&told);
+    coniks_client_head head;
+    CHECK(coniks_client_latest(client, &head) == 0 && head.epoch == 2);
+    head.link.bytes[0] ^= 1;
+    CHECK(coniks_client_cover(client, &head) == CONIKS_CLIENT_DIFFERS && coniks_client_count(client) == 2);
+    head.link.bytes[0] ^= 1;
+    CHECK(coniks_client_cover(client, &head) == CONIKS_CLIENT_EQUAL && coniks_client_count(client) == 1);
+    coniks_client_free(client);
+}
+
+/* The age of epoch 2 if the first epoch begins at `start`. */
+static int64_t age_at(coniks_client *client, struct told *told, uint64_t start, uint64_t now)
+{
+    const uint64_t epoch = 2;
+    coniks_client_found found;
+    client->policy.start = start;
+    told->now = now;
+    CHECK(coniks_client_lookup(client, NAME("alice"), reply, reply_length, &epoch, &found, NULL) == 0 && found.has_age);
+    return found.age;
+}
+
+static void try_ages(void)
+{
+    const uint64_t half = (uint64_t)INT64_MAX;
+    struct told told;
+    coniks_client *client = fed(&told);
+    CHECK(age_at(client, &told, 0, PERIOD) == 0 && age_at(client, &told, 0, PERIOD - 1) == -1);
+    CHECK(age_at(client, &told, 0, half + PERIOD - 1) == INT64_MAX - 1);
+    CHECK(age_at(client, &told, 0, half + PERIOD + 1) == INT64_MAX && age_at(client, &told, 0, UINT64_MAX) == INT64_MAX);
+    CHECK(age_at(client, &told, half - PERIOD, 0) == -INT64_MAX && age_at(client, &told, half - PERIOD + 2, 0) == INT64_MIN);
+    CHECK(age_at(client, &told, UINT64_MAX - PERIOD, UINT64_MAX) == 0);
+    CHECK(age_at(client, &told, UINT64_MAX - PERIOD + 1, UINT64_MAX) == INT64_MIN);
     coniks_client_free(client);
 }
 
@@ -369,7 +511,9 @@ static void try_misuse(void)
     coniks_client *client = fed(&told);
     uint64_t second = 2;
     CHECK(coniks_client_expect(client, k, 1, 9) == CONIKS_CLIENT_E_NOT_WATCHING);
+    CHECK(coniks_client_expect(client, k, 0, 9) == CONIKS_CLIENT_E_NOT_WATCHING);
     CHECK(coniks_client_watch(client, NULL, 0, k, 1, NULL) == CONIKS_CLIENT_E_NAME);
+    CHECK(coniks_client_watch(client, NULL, 0, k, 0, NULL) == CONIKS_CLIENT_E_NAME);
     CHECK(coniks_client_watch(client, long_name, sizeof long_name, k, 1, NULL) == CONIKS_CLIENT_E_NAME);
     CHECK(coniks_client_watch(client, NAME("alice"), k, 0, NULL) == CONIKS_CLIENT_E_EXPECTED_KEY);
     CHECK(coniks_client_watch(client, NAME("alice"), NULL, 1, NULL) == CONIKS_CLIENT_E_EXPECTED_KEY);
@@ -414,29 +558,41 @@ static void try_lost(void)
     coniks_client_free(client);
 }
 
-/* Each epoch is lost and dropped as the next one comes: there is room for each alarm. */
+/* Each epoch is lost and dropped as the next one comes: there is room for each alarm, also in the client that goes on. */
 static void try_many_alarms(void)
 {
-    uint8_t entry[CONIKS_ENTRY_BYTES];
+    static uint8_t saved[ROOM];
     coniks_client_settings settings;
     struct told told;
-    coniks_client *client;
-    coniks_client_head head = {0};
+    coniks_client *client = credulous(&settings, &told);
+    coniks_client_head head;
     uint64_t epoch;
-    begin_settings(&settings, &told);
-    settings.signatures.verify = verify;
-    settings.signatures.context = &told;
-    told.result = 1;
-    CHECK(coniks_client_new(&client, &settings) == 0);
+    size_t length;
     client->policy.has_end = 1;
     CHECK(coniks_client_watch(client, NAME("alice"), NULL, 0, NULL) == 0);
     for (epoch = 1; epoch <= 100; epoch++) {
-        told.now = START + epoch * PERIOD;
-        make(epoch, &head, entry);
-        CHECK(coniks_client_feed(client, entry, sizeof entry, NULL, NULL) == 0);
+        feed_next(client, &told, epoch);
         CHECK(coniks_client_latest(client, &head) == 0 && coniks_client_cover(client, &head) == CONIKS_CLIENT_EQUAL);
         CHECK(coniks_client_count(client) == 1 && coniks_client_alarms(client, NULL, 0) == epoch - 1);
     }
+    CHECK(coniks_client_state(client, saved, sizeof saved, &length) == 0);
+    coniks_client_free(client);
+    CHECK(coniks_client_resume(&client, &settings, saved, length) == 0 && coniks_client_alarms(client, NULL, 0) == 99);
+    coniks_client_free(client);
+}
+
+/* Two epochs are lost, and the caller has room for one. */
+static void try_lost_room(void)
+{
+    uint64_t epoch, epochs[2] = {7, 7};
+    coniks_client_settings settings;
+    struct told told;
+    coniks_client *client = credulous(&settings, &told);
+    client->policy.has_end = 1;
+    CHECK(coniks_client_watch(client, NAME("alice"), NULL, 0, NULL) == 0);
+    for (epoch = 1; epoch <= 3; epoch++)
+        feed_next(client, &told, epoch);
+    CHECK(coniks_client_lost(client, epochs, 1) == 2 && epochs[0] == 1 && epochs[1] == 7);
     coniks_client_free(client);
 }
 
@@ -576,15 +732,21 @@ int main(void)
     try_signatures();
     try_examples();
     try_state();
+    try_copies();
     try_wrong_states();
     try_marks();
     try_lengths();
     try_schemes();
+    try_given();
     try_evidence();
+    try_many_heads();
+    try_covers();
+    try_ages();
     try_misuse();
     try_settings();
     try_lost();
     try_many_alarms();
+    try_lost_room();
     try_texts();
     return failures ? 1 : 0;
 }

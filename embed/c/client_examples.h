@@ -49,6 +49,8 @@ static const char STATE[] =
     "2c6c3f88f02455ee37fd0a7e4dfac70f000000006955c74c0100000000000000000000000000000000000000000000000000000000000000"
     "0000000000000000000105616c6963650000000000000001000000016b0000000069c92c7faa17eec52fa679ece303adb601cf2afdad7ccd"
     "478f5def30fa1438d8";
+/* The digest in this state if the first byte of the last signature has another last bit. */
+#define UNSIGNED "a52811699f71275699a6849a1df33de22d5a97a3190f54e562ca0fc11cdff97d"
 
 /* The watch and the digest in its state once it expects the key `n` by epoch 5. */
 static const char WATCH[] =
