@@ -35,9 +35,10 @@ macro_rules! causes {
                 }
             }
 
-            /// Returns the cause of a status, None of 0. No other status is returned than those of the causes.
-            pub(super) fn of(status: u32) -> Option<Self> {
-                Self::ALL.iter().copied().find(|it| *it as u32 == status)
+            /// Returns the cause of a status that is not 0. Since there is room for all that the core writes, it returns no other status than
+            /// those of the causes.
+            pub(super) fn of(status: u32) -> Self {
+                Self::ALL.iter().copied().find(|it| *it as u32 == status).unwrap_or(Cause::UnknownEpoch)
             }
 
             /// What is refused, and what to do about it; no text for the library's errors, which have their own.

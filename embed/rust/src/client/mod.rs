@@ -290,12 +290,11 @@ impl Client {
 
     /// Returns the refusal of a status, with what convicts together with an entry.
     fn accepted(&self, status: u32, why: &Why, entry: &[u8]) -> Result<(), Refusal> {
-        match Cause::of(status) {
-            None => Ok(()),
-            Some(cause) => {
-                Err(Refusal::with(cause, (why.status != 0).then(|| Error::of(why.status)), self.evidence_of(why, entry)))
-            }
+        if status == 0 {
+            return Ok(());
         }
+        let own_status = (why.status != 0).then(|| Error::of(why.status));
+        Err(Refusal::with(Cause::of(status), own_status, self.evidence_of(why, entry)))
     }
 
     fn evidence_of(&self, why: &Why, entry: &[u8]) -> Option<Evidence> {
@@ -640,7 +639,10 @@ impl Client {
 
 /// Returns the refusal of a status, if it is none of success.
 fn refused(status: u32) -> Result<(), Refusal> {
-    Cause::of(status).map_or(Ok(()), |it| Err(it.into()))
+    if status == 0 {
+        return Ok(());
+    }
+    Err(Cause::of(status).into())
 }
 
 /// Returns the epoch of a kept entry.
