@@ -7,12 +7,14 @@ use coniks::client::{
     SigningKey, Step, Trust, VrfKey, Watched,
 };
 use coniks::{link, Body, Error, EvidenceKind, Head};
-use formats::{bytes, entries, fed, keys, policy, Time, HISTORY, MARKED, PERIOD, POLICY, REPLY, START, STATE, TRUST, WATCH};
+use formats::{
+    bytes, entries, fed, keys, policy, Time, HISTORY, MARKED, PERIOD, POLICY, REPLY, START, STATE, TRUST, UNSIGNED, WATCH,
+};
 use std::collections::BTreeMap;
 use std::num::{NonZeroU64, NonZeroUsize};
 use std::panic::{catch_unwind, AssertUnwindSafe};
 use std::sync::atomic::{AtomicBool, Ordering};
-use std::sync::Arc;
+use std::sync::{Arc, Mutex};
 use std::time::Duration;
 
 const MINUTE: u64 = 60 * 1000;
@@ -146,6 +148,16 @@ fn the_state_of_the_example() {
     assert!(resumed.entries().map(|it| it.to_vec()).eq(entries()));
 }
 
+#[test]
+fn a_state_whose_last_entry_is_not_signed() {
+    let mut state = bytes(STATE);
+    state[255 + 145] ^= 1;
+    let digest = state.len() - 32;
+    state.splice(digest.., bytes(UNSIGNED));
+    let refusal = Client::resume(keys(), policy(), &state, Time::default().settings()).unwrap_err();
+    assert_eq!(refusal.cause, Cause::StateChain);
+}
+
 /// A client with the state of the example that names auditors.
 fn marked(auditors: u32) -> Client {
     let digest = bytes(TRUST).try_into().expect("a digest");
@@ -186,9 +198,11 @@ fn a_quorum_drops_what_it_confirms() {
     let head = client.head().expect("an entry");
     for auditor in 0..3 {
         assert_eq!((client.confirmed(), client.report()), (None, Ok(Report::Unconfirmed(1, 2))));
+        assert_eq!(client.is_relied(2), Ok(false));
         assert_eq!(client.mark(auditor, &head), Ok(Comparison::Equal));
     }
     assert_eq!((client.confirmed(), client.report()), (Some(2), Ok(Report::Good(1, 2))));
+    assert_eq!((client.is_relied(1), client.is_relied(2)), (Ok(true), Ok(true)));
     assert_eq!((client.drop_confirmed(), client.report(), client.alarms()), (vec![1], Ok(Report::Good(2, 2)), vec![]));
     assert_eq!((client.drop_confirmed(), client.entries().len()), (vec![], 1));
 }
@@ -341,6 +355,51 @@ fn schemes_of_the_caller_decide() {
     assert_eq!(client.history("alice", &bytes(HISTORY)).unwrap_err().cause, Cause::VrfProof);
     indices.result.store(true, Ordering::Relaxed);
     assert_eq!(client.lookup("alice", &bytes(REPLY), Some(2)).unwrap_err().cause, Cause::RootMismatch);
+}
+
+/// Keeps what it is given. Each signature is good, and no proof.
+#[derive(Clone, Default)]
+struct Recorder(Arc<Mutex<Vec<Vec<u8>>>>);
+
+impl Recorder {
+    fn keep(&self, parts: [&[u8]; 2]) {
+        self.0.lock().expect("no panic").push(parts.concat());
+    }
+}
+
+impl SignatureScheme for Recorder {
+    fn verify(&self, body: &[u8; 145], signature: &[u8; 64]) -> bool {
+        self.keep([body, signature]);
+        true
+    }
+}
+
+impl IndexScheme for Recorder {
+    fn index(&self, name: &[u8], proof: &[u8]) -> Option<[u8; 32]> {
+        self.keep([name, proof]);
+        None
+    }
+}
+
+#[test]
+fn schemes_are_given_what_is_verified() {
+    let given = Recorder::default();
+    let keys = Keys { signing: SigningKey::Scheme(Box::new(given.clone())), vrf: VrfKey::Scheme(Box::new(given.clone())) };
+    let mut client = Client::new(keys, policy(), Time::default().settings()).expect("a client");
+    client.feed(entries()).expect("they follow");
+    // The reply's entry is kept, and its signature is not verified once more.
+    assert_eq!(client.lookup("alice", &bytes(REPLY), Some(2)).unwrap_err().cause, Cause::VrfProof);
+    let [first, second] = entries();
+    let asked = [&b"alice"[..], &bytes(REPLY)[212..292]].concat();
+    assert_eq!(*given.0.lock().expect("no panic"), [first, second, asked]);
+}
+
+#[test]
+fn without_a_vrf_nothing_is_looked_up() {
+    let keys = Keys::new(&bytes(formats::SIGNING_KEY), None).expect("a key");
+    let mut client = Client::new(keys, policy().digest(), Time::default().settings()).expect("a client");
+    client.feed(entries()).expect("they follow");
+    assert_eq!(client.lookup("alice", &bytes(REPLY), Some(2)).unwrap_err().cause, Cause::VrfProof);
 }
 
 #[test]
@@ -592,7 +651,9 @@ fn a_change_is_over_once_the_latest_epoch_shows_the_new_key() {
 fn a_watch_that_a_caller_can_not_have() {
     let (mut client, _) = fed();
     assert_eq!(client.expect(Some(b"K"), 9), Err(Misuse::NotWatching));
+    assert_eq!(client.expect(Some(b""), 9), Err(Misuse::NotWatching));
     assert_eq!(client.watch("", Some(b"k"), None), Err(Misuse::NameLength));
+    assert_eq!(client.watch("", Some(b""), None), Err(Misuse::NameLength));
     assert_eq!(client.watch([b'a'; 256], Some(b"k"), None), Err(Misuse::NameLength));
     assert_eq!(client.watch("alice", Some(b""), None), Err(Misuse::KeyLength));
     assert_eq!(client.state(), fed().0.state());
@@ -628,8 +689,9 @@ fn evidence_names_both_entries() {
         "the signed entry and one of the chain convict the provider: keep the evidence, and publish it"
     );
     let reply = [&[1][..], &entry_of(2, 0, [0; 32]), &[0, 0]].concat();
-    let cause = client.lookup("alice", &reply, Some(9)).unwrap_err().cause;
-    assert_eq!(cause, Cause::Equivocation, "evidence comes before an unknown epoch");
+    let refusal = client.lookup("alice", &reply, Some(9)).unwrap_err();
+    assert_eq!((refusal.cause, refusal.status), (Cause::Equivocation, None), "evidence comes before an unknown epoch");
+    assert_eq!(refusal.evidence, Some(evidence), "of the entry in the reply");
     let later = entry_of(5, 3, [9; 32]);
     let refusal = client.feed([&later]).unwrap_err();
     assert_eq!((refusal.cause, refusal.status, refusal.evidence), (Cause::PreviousLink, Some(Error::PreviousLink), None));
@@ -638,6 +700,15 @@ fn evidence_names_both_entries() {
     let compared = [(3, head.link), (3, [0; 32]), (1, head.link), (4, head.link), (0, head.link)];
     let wanted = [Comparison::Equal, Comparison::Differs, Comparison::Differs, Comparison::Unknown, Comparison::Unknown];
     assert_eq!(compared.map(|(epoch, link)| client.compare(&Head { epoch, link })), wanted);
+}
+
+#[test]
+fn a_head_of_another_chain_drops_nothing() {
+    let (mut client, _) = fed();
+    let head = client.head().expect("an entry");
+    let other = Head { link: [0; 32], ..head };
+    assert_eq!((client.cover(&other), client.entries().len()), (Comparison::Differs, 2));
+    assert_eq!((client.cover(&head), client.entries().len()), (Comparison::Equal, 1));
 }
 
 #[test]
