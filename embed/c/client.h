@@ -19,9 +19,9 @@
  * provider is in `struct coniks_client_refusal`: publish it.
  *
  * Memory. The client allocates by `settings.memory`, and frees all of it in coniks_client_free. It keeps up to 468 bytes for each
- * entry, 16 for each alarm, 8 for each auditor, and 64 and the new key for each change of the watched key, until it drops them. No
- * length in a message decides how much is allocated: beside what is kept, a history takes 40 bytes for each kept entry while the call
- * lasts, and a state 4. Calls use at most 32 KiB of stack.
+ * entry, 16 for each alarm, 8 for each auditor, and 64 and the new key for each change of the watched key. Keys that it drops are freed, and
+ * other room is used again. No length in a message decides how much is allocated: beside what is kept, a history takes 32 bytes for each
+ * kept entry while the call lasts, and a state 4. Calls use at most 32 KiB of stack.
  *
  * Threads. There is no global state. A client is for one thread at a time, and can't be copied: one of both would miss what the
  * other is fed. Pass its state on instead.
@@ -199,7 +199,7 @@ typedef struct coniks_client_found {
     size_t key_length;
     uint64_t first_seen; /* when the client accepted the entry */
     int has_age;         /* 1 if the policy has a clock */
-    int64_t age;         /* how many seconds ago the epoch began by it, below 0 if it has not begun; INT64_MIN if it is less */
+    int64_t age;         /* how many seconds ago the epoch began by it, below 0 if it has not begun, within the type's limits */
 } coniks_client_found;
 
 typedef struct coniks_client coniks_client;
@@ -262,7 +262,8 @@ uint32_t coniks_client_lookup(coniks_client *client, const uint8_t *name, size_t
 
 /*
  * Writes what a history shows of a name, one for each of its epochs, in `found`, which has room for so many. There are at most
- * as many as the client keeps entries. Returns 0, or the first error of "A client's lookup"; then *count is 0.
+ * as many as the client keeps entries. Returns 0, or the first error of "A client's lookup", CONIKS_CLIENT_E_ROOM or
+ * CONIKS_CLIENT_E_MEMORY; then *count is 0.
  */
 CONIKS_NODISCARD CONIKS_NONNULL((1, 8))
 uint32_t coniks_client_history(coniks_client *client, const uint8_t *name, size_t name_length, const uint8_t *history,
@@ -270,7 +271,8 @@ uint32_t coniks_client_history(coniks_client *client, const uint8_t *name, size_
 
 /*
  * Watches the client's own name: each epoch from *since on, by default the latest, must show the key, or none if `key` is NULL. A
- * client watches one name for its life. The same call once more changes nothing. Returns 0, 130, 131, 132 or 138.
+ * client watches one name for its life. The same call once more changes nothing. Returns 0, 130 to 132, or
+ * CONIKS_CLIENT_E_MEMORY.
  */
 CONIKS_NODISCARD CONIKS_NONNULL((1))
 uint32_t coniks_client_watch(coniks_client *client, const uint8_t *name, size_t name_length, const uint8_t *key,
@@ -278,7 +280,7 @@ uint32_t coniks_client_watch(coniks_client *client, const uint8_t *name, size_t 
 
 /*
  * Expects the owner's own change of the key: later epochs may show the old or the new key, and from epoch `by` on only the new
- * one, or none if `key` is NULL. Returns 0, 131, or 133 to 138.
+ * one, or none if `key` is NULL. Returns 0, 131, 133 to 136, or CONIKS_CLIENT_E_MEMORY.
  */
 CONIKS_NODISCARD CONIKS_NONNULL((1))
 uint32_t coniks_client_expect(coniks_client *client, const uint8_t *key, size_t key_length, uint64_t by);
