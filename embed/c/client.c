@@ -194,7 +194,7 @@ static void copy_heads(const coniks_client_head *heads, size_t count, coniks_hea
     }
 }
 
-/* Begins with an entry. */
+/* Begins with an entry, of which at most MANY_HEADS auditors have a head. */
 static uint32_t start(coniks_client *client, struct slice entry, const coniks_client_head *heads, size_t head_count,
                       size_t least, coniks_client_refusal *why)
 {
@@ -205,7 +205,7 @@ static uint32_t start(coniks_client *client, struct slice entry, const coniks_cl
     if (status)
         return status;
     memset(copies, 0, sizeof copies);
-    copy_heads(heads, head_count < MANY_HEADS ? head_count : MANY_HEADS, copies);
+    copy_heads(heads, head_count, copies);
     status = coniks_core_start(&client->policy.digest, client->kept, client->room, &client->count, &client->watch, copies,
                                head_count, least, entry.bytes, entry.length,
                                client_signature_verdict(client, entry.bytes, entry.length), time, &reason);
