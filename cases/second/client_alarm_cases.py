@@ -420,6 +420,7 @@ def broken() -> Iterator[tuple[str, bytes, str]]:
     yield "the root of an entry, signed", renewed(
         edited(STATE, KEPT, resigned(STATE[KEPT : KEPT + 209], 17, bytes(32)))
     ), "StateChain"
+    yield "the last signature", renewed(edited(STATE, COUNT - 218 + 145, bytes(64))), "StateChain"
     yield "the root of an entry, and an alarm with the number 1", renewed(edited(other, COUNT + 12, b"\1")), "StateForm"
     back = Watch(b"alice", 4, FIRST_KEY.encode())
     yield "alarms before a first watched epoch that is later", renewed(STATE[:WATCHED] + watch_bytes(back) + bytes(32)), "StateForm"
