@@ -632,6 +632,50 @@ static void try_settings(void)
     coniks_client_free(NULL);
 }
 
+/* Reads the example's policy with other bytes in place of some of it. */
+static uint32_t read_changed(const char *part, const char *other)
+{
+    static const char document[] = POLICY;
+    char text[1024];
+    struct policy policy;
+    const char *at = strstr(document, part);
+    int length = snprintf(text, sizeof text, "%.*s%s%s", (int)(at - document), document, other, at + strlen(part));
+    return client_read_policy(client_slice_of((const uint8_t *)text, (size_t)length), &policy);
+}
+
+static void try_policies(void)
+{
+    static const char *const wrong[][2] = {{"policy", "Policy"},
+                                           {"coniks-1", "coniks-2"},
+                                           {"keys.example.com/directory", ""},
+                                           {"origin keys", "origin  keys"},
+                                           {"Ed25519\n", "Ed25519 \n"},
+                                           {"511a\n", "511A\n"},
+                                           {"511a\n", "511\n"},
+                                           {"511a\n", "511a00\n"},
+                                           {"ECVRF-EDWARDS25519-SHA512-TAI", "none"},
+                                           {"epoch-start 1767225600\n", ""},
+                                           {"epoch-start 1767225600", "epoch-start 18446744073709551616"},
+                                           {"epoch-period 3600\n", ""},
+                                           {"epoch-period 3600", "epoch-period 0"},
+                                           {"epoch-period 3600", "epoch-period 03600"},
+                                           {"evidence one-chain\n", ""},
+                                           {"proofs-kept", "records any\nproofs-kept"},
+                                           {"forever\n", "forever"},
+                                           {"forever\n", "forever\n\n"},
+                                           {"forever", "-1"}};
+    char origin[257] = {0};
+    size_t i;
+    for (i = 0; i < sizeof wrong / sizeof wrong[0]; i++)
+        CHECK(read_changed(wrong[i][0], wrong[i][1]) == CONIKS_CLIENT_E_POLICY_FORM);
+    CHECK(read_changed("epoch-start 1767225600", "epoch-start 18446744073709551615") == 0);
+    CHECK(read_changed("proofs-kept", "records vouched\nproofs-kept") == 0);
+    memset(origin, 'x', 256);
+    CHECK(read_changed("keys.example.com/directory", origin) == CONIKS_CLIENT_E_POLICY_FORM);
+    origin[255] = 0;
+    CHECK(read_changed("keys.example.com/directory", origin) == 0);
+}
+
 static void try_texts(void)
 {
     uint8_t text[160], cut[5];
@@ -747,6 +791,7 @@ int main(void)
     try_lost();
     try_many_alarms();
     try_lost_room();
+    try_policies();
     try_texts();
     return failures ? 1 : 0;
 }
