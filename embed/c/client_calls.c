@@ -352,7 +352,7 @@ static void try_schemes(void)
     }
 }
 
-/* A scheme is given the parts of what it verifies. An entry that is kept is not verified once more. */
+/* A scheme, which takes a key's place, is given the parts of what it verifies. An entry that is kept is not verified once more. */
 static void try_given(void)
 {
     coniks_client_settings settings;
@@ -363,6 +363,8 @@ static void try_given(void)
     settings.signatures.context = &told;
     settings.indices.index = find;
     settings.indices.context = &told;
+    settings.signing_key = NULL;
+    settings.vrf_key = NULL;
     told.result = 1;
     CHECK(coniks_client_new(&client, &settings) == 0);
     CHECK(coniks_client_feed(client, state + 37, CONIKS_ENTRY_BYTES, NULL, NULL) == 0);
