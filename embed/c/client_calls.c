@@ -265,10 +265,26 @@ static void try_marks(void)
     CHECK(coniks_client_mark(client, 1, &head) == CONIKS_CLIENT_EQUAL);
     CHECK(coniks_client_mark(client, 2, &head) == CONIKS_CLIENT_E_NO_AUDITOR);
     coniks_client_free(client);
+}
+
+/* The marks in the example's state are not those of three auditors, of whom two are a quorum. */
+static void try_other_auditors(void)
+{
+    static uint8_t marked[ROOM];
+    coniks_client_settings settings;
+    struct told told;
+    coniks_client *client;
+    coniks_client_head head;
+    coniks_bytes32 trust;
+    uint64_t epoch;
+    size_t length = read_digits(MARKED, marked);
+    begin_settings(&settings, &told);
+    read_digits(TRUST, trust.bytes);
+    settings.trust = &trust;
     settings.auditors = 3;
     CHECK(coniks_client_resume(&client, &settings, marked, length) == 0);
     CHECK(coniks_client_confirmed(client, &epoch) == CONIKS_CLIENT_E_NOT_CONFIRMED);
-    CHECK(coniks_client_mark(client, 0, &head) == CONIKS_CLIENT_EQUAL);
+    CHECK(coniks_client_latest(client, &head) == 0 && coniks_client_mark(client, 0, &head) == CONIKS_CLIENT_EQUAL);
     CHECK(coniks_client_relied(client, 2) == CONIKS_CLIENT_E_NOT_CONFIRMED);
     CHECK(coniks_client_mark(client, 1, &head) == CONIKS_CLIENT_EQUAL && coniks_client_relied(client, 2) == 0);
     coniks_client_free(client);
@@ -781,6 +797,7 @@ int main(void)
     try_copies();
     try_wrong_states();
     try_marks();
+    try_other_auditors();
     try_lengths();
     try_schemes();
     try_given();
