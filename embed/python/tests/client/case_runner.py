@@ -70,7 +70,7 @@ def begun(case: Answer, clock: Clock) -> Client:
     vouched = case.get("vouched")
     if vouched is None:
         return Client(*keys, policy, data(case, "state"), **more)
-    heads = {at: coniks.Head(epoch, bytes.fromhex(link)) for at, (epoch, link) in enumerate(vouched["heads"])}
+    heads = {str(at): coniks.Head(epoch, bytes.fromhex(link)) for at, (epoch, link) in enumerate(vouched["heads"])}
     return Client.vouched(*keys, policy, bytes.fromhex(vouched["entry"]), heads, vouched["least"], **more)
 
 
