@@ -222,7 +222,7 @@ uint32_t coniks_client_resume(coniks_client **client, const coniks_client_settin
                               size_t state_length);
 
 /*
- * Makes a client whose chain begins with an entry that at least so many auditors have. `heads` has the head of each auditor for
+ * Makes a client whose chain begins with an entry that at least `least` auditors have. `heads` has the head of each auditor for
  * that entry's epoch, one for each, at most 64; get each from the auditor itself. With a trust document, call coniks_client_mark with each
  * of them afterwards. Also returns the errors of the entry alone (48, 40, 80, 81), 105, 104, CONIKS_CLIENT_E_LEAST and
  * CONIKS_CLIENT_E_MANY_HEADS. `why` may be NULL.
@@ -261,7 +261,7 @@ uint32_t coniks_client_lookup(coniks_client *client, const uint8_t *name, size_t
                               coniks_client_refusal *why);
 
 /*
- * Writes what a history shows of a name, one for each of its epochs, in `found`, which has room for so many. There are at most
+ * Writes what a history shows of a name, one for each of its epochs, in `found`, which has room for `room`. There are at most
  * as many as the client keeps entries. Returns 0, or the first error of "A client's lookup", CONIKS_CLIENT_E_ROOM or
  * CONIKS_CLIENT_E_MEMORY; then *count is 0.
  */

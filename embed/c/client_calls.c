@@ -290,6 +290,27 @@ static void try_other_auditors(void)
     coniks_client_free(client);
 }
 
+/* One auditor's head drops nothing of a client that names its auditors. */
+static void try_one_auditor(void)
+{
+    coniks_client_settings settings;
+    struct told told;
+    coniks_client *client;
+    coniks_client_head head;
+    coniks_client_found found[2];
+    coniks_bytes32 trust;
+    size_t count;
+    begin_settings(&settings, &told);
+    read_digits(TRUST, trust.bytes);
+    settings.trust = &trust;
+    settings.auditors = 2;
+    CHECK(coniks_client_resume(&client, &settings, state, state_length) == 0);
+    CHECK(coniks_client_history(client, NAME("alice"), history, history_length, found, 2, &count) == 0 && count == 2);
+    CHECK(coniks_client_latest(client, &head) == 0 && coniks_client_cover(client, &head) == CONIKS_CLIENT_EQUAL);
+    CHECK(coniks_client_count(client) == 2);
+    coniks_client_free(client);
+}
+
 static void try_lengths(void)
 {
     static uint8_t other[ROOM];
@@ -545,7 +566,7 @@ static void try_misuse(void)
     coniks_client_free(client);
 }
 
-/* The example's policy, with proofs that are kept for so many seconds, at a time. */
+/* The example's policy, with proofs that are kept for a number of seconds, at a time. */
 static size_t lost_at(coniks_client *client, struct told *told, uint64_t proofs_kept, uint64_t now)
 {
     uint64_t epochs[2] = {7, 7};
@@ -798,6 +819,7 @@ int main(void)
     try_wrong_states();
     try_marks();
     try_other_auditors();
+    try_one_auditor();
     try_lengths();
     try_schemes();
     try_given();

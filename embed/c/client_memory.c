@@ -27,14 +27,14 @@ static void *grown(const coniks_client *client, void *from, size_t count, size_t
     return to;
 }
 
-/* At least so many elements, and twice as many as there are, if that can be. */
+/* Room for `more` elements after `count`: twice the count, if that is enough. */
 static size_t room_for(size_t count, size_t more)
 {
     size_t wanted = more > count ? count + more : 2 * count;
     return wanted <= UINT32_MAX ? wanted : count + more;
 }
 
-/* Makes room for so many alarms. */
+/* Makes room for `room` alarms. */
 static uint32_t reserve_alarms(coniks_client *client, size_t room)
 {
     coniks_alarm *alarms;

@@ -72,9 +72,9 @@ CONIKS_NODISCARD uint32_t client_read_policy(struct slice document, struct polic
 
 /* client_memory.c */
 
-/* Makes room for so many kept epochs more, and for so many alarms in all and one of each kept epoch. */
+/* Makes room for `more` kept epochs, and for `alarm_count` alarms and one of each kept epoch. */
 CONIKS_NODISCARD uint32_t client_reserve(coniks_client *client, size_t more, size_t alarm_count);
-/* Makes room for so many changes in all. */
+/* Makes room for `count` changes in all. */
 CONIKS_NODISCARD uint32_t client_reserve_changes(coniks_client *client, size_t count);
 /* Replaces bytes by a copy that the client owns. Returns 0 if there is no memory; the copy of no byte is NULL. */
 CONIKS_NODISCARD int client_own(const coniks_client *client, const uint8_t **bytes, size_t length);

@@ -101,7 +101,7 @@ static void free_keys(const coniks_client *client, struct slice key, size_t drop
         client_disown(client, before[i].key, before[i].key_length);
 }
 
-/* Drops epochs, by the marks of auditors of which so many are a quorum. There is room for their alarms. */
+/* Drops epochs, by the marks of auditors and the size of their quorum. There is room for the alarms. */
 static uint32_t drop(coniks_client *client, const uint64_t *marks, size_t mark_count, size_t quorum, coniks_covered *covered)
 {
     const coniks_present present = client_present(client);

@@ -26,7 +26,7 @@ NAMES = 100
 # The p99 beside an attack is at most FACTOR times the p99 without one. A p99 below FLOOR seconds counts as FLOOR.
 FACTOR, FLOOR = 3, 0.02
 # A machine that is busy with something else is slow at times, and a hundred lookups have no 99th percentile beside their largest: then more
-# lookups are measured, for so many times as long, and all of them count.
+# lookups are measured, each time for longer by these factors, and all of them count.
 TRIES = (1, 2, 4, 8)
 
 

@@ -124,7 +124,7 @@ func Resume(settings Settings, state []byte) (*Client, error) {
 	return it, nil
 }
 
-// Vouched returns a client whose chain begins with an entry for which at least so many auditors have a head. The heads are those of
+// Vouched returns a client whose chain begins with an entry for which at least that number of auditors have a head. The heads are those of
 // at most 64 auditors for the entry's epoch, by the auditors' names: get each from the auditor itself. With Trust in the Settings, call Mark
 // with each of them afterwards.
 func Vouched(settings Settings, entry []byte, heads map[string]coniks.Head, least int) (*Client, error) {

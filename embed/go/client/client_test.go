@@ -83,6 +83,9 @@ func TestAuditorsOfFormats(t *testing.T) {
 	}
 	_, err = it.Mark(2, *it.Head())
 	misuse(t, err)
+	if it.Cover(*it.Head()) != Equal || len(it.Entries()) != 2 {
+		t.Error("one auditor's head drops an epoch")
+	}
 	if fmt.Sprint(it.Drop()) != "[1]" || hex.EncodeToString(it.State()) != wanted.State {
 		t.Error(hex.EncodeToString(it.State()))
 	}

@@ -11,7 +11,7 @@ import (
 const defaultSkew = 300
 
 // clock is the caller's, with the policy's start and period, and the client's limits in whole seconds. The period is 0 without a clock of
-// the policy. Proofs are kept for so many seconds, for ever if that is nil.
+// the policy. proofsKept is the number of seconds for which proofs are kept, nil for ever.
 type clock struct {
 	read          func() time.Time
 	start, period uint64

@@ -53,7 +53,7 @@ type change struct {
 	key               []byte
 }
 
-// reserve makes room for so many kept epochs more.
+// reserve makes room for more kept epochs.
 func (it *memory) reserve(more int) {
 	if needed := int(it.count) + more; needed > len(it.kept) {
 		it.kept = append(make([]C.coniks_kept, 0, needed+int(it.count)), it.kept[:it.count]...)
@@ -61,7 +61,7 @@ func (it *memory) reserve(more int) {
 	}
 }
 
-// reserveAlarms makes room for so many alarms more.
+// reserveAlarms makes room for more alarms.
 func (it *memory) reserveAlarms(more int) {
 	if needed := int(it.alarmCount) + more; needed > len(it.alarms) {
 		it.alarms = append(make([]C.coniks_alarm, 0, needed), it.alarms[:it.alarmCount]...)

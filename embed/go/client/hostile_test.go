@@ -53,7 +53,7 @@ func TestHostileLengths(t *testing.T) {
 	// No alarm, no trust document and no mark; and the name.
 	rest := make([]byte, 4+32+4)
 	watch := bytes.Join([][]byte{{1, 1, 'a'}, make([]byte, 8)}, nil)
-	// Of no epoch, with so many changes after no key.
+	// Of no epoch, with these changes after no key.
 	watching := func(count byte, changes ...[]byte) []byte {
 		return renewed(front, none, rest, watch, make([]byte, 7), []byte{count}, bytes.Join(changes, nil))
 	}

@@ -203,6 +203,7 @@ fn a_quorum_drops_what_it_confirms() {
     }
     assert_eq!((client.confirmed(), client.report()), (Some(2), Ok(Report::Good(1, 2))));
     assert_eq!((client.is_relied(1), client.is_relied(2)), (Ok(true), Ok(true)));
+    assert_eq!((client.cover(&head), client.entries().len()), (Comparison::Equal, 2), "one auditor confirms nothing");
     assert_eq!((client.drop_confirmed(), client.report(), client.alarms()), (vec![1], Ok(Report::Good(2, 2)), vec![]));
     assert_eq!((client.drop_confirmed(), client.entries().len()), (vec![], 1));
 }

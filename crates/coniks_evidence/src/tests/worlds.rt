@@ -154,7 +154,7 @@ fn each_two_strings(rt: HostRuntime) {
     assert!(rt; three == wanted_of_three);
 }
 
-/// Returns what Bob is told at an epoch: this, if it is of the epoch, else what Alice is told.
+/// Returns what Bob is shown at an epoch: `other`, if it is of this epoch, else what Alice is shown.
 fn told_bob<'a, 'b>(mine: &'a Told<'b>, other: &'a Told<'b>) -> &'a Told<'b> {
     if mine.epoch == other.epoch {
         other

@@ -27,7 +27,7 @@ class Array:
         return self.memory[range(len(self))[place]]
 
     def reserve(self, more: int) -> None:
-        """Makes room for so many elements more."""
+        """Makes room for more elements."""
         needed = len(self) + more
         if needed > len(self.memory):
             grown = (self._kind * max(needed, 2 * len(self.memory)))()

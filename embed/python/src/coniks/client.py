@@ -210,7 +210,7 @@ class Client:
         clock: Clock = time.time,
         trust: Optional[Trust] = None,
     ) -> Client:
-        """Returns a client whose chain begins with an entry that at least so many auditors have. `heads` has the head of each
+        """Returns a client whose chain begins with an entry that at least `least` auditors have. `heads` has the head of each
         auditor for that entry's epoch, by the auditor's name; get each from the auditor itself. With `trust`, call `mark` with each of
         them afterwards."""
         client = cls(signing_key, vrf_key, policy, max_age=max_age, skew=skew, clock=clock, trust=trust)

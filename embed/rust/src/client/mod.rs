@@ -224,7 +224,7 @@ impl Client {
         Ok(client)
     }
 
-    /// Returns a client whose chain begins with an entry that at least so many auditors have.
+    /// Returns a client whose chain begins with an entry that at least `least` auditors have.
     ///
     /// `heads` has the head of each auditor for that entry's epoch, by the auditor's name. Get each from the auditor itself. With
     /// [`Settings::trust`], call [`Client::mark`] with each of them afterwards.

@@ -93,7 +93,7 @@ pub struct Trust {
 }
 
 impl Trust {
-    /// Returns the trust in a document with this SHA-256, which names so many auditors, of which at most `faulty` lie or are silent.
+    /// Returns the trust in a document with this SHA-256, which names this number of auditors, of which at most `faulty` lie or are silent.
     ///
     /// # Errors
     ///
