@@ -7,3 +7,4 @@ mod FeedLemmas
 mod StartLemmas
 mod HistoryLemmas
 mod CoreStateLemmas
+mod GuardLemmas

@@ -8,3 +8,4 @@ pub mod CoreStatuses
 pub mod CoreTold
 pub mod CoreQuorum
 pub mod CoreStates
+pub mod Guarding

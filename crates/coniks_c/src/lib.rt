@@ -1,8 +1,8 @@
-//! The checker of proofs, the auditor of a chain and a client's monitor for C, and for all that calls C. Nothing here takes
-//! memory but the stack, starts a thread, keeps anything after a call or calls anybody back.
+//! The checker of proofs, the auditor of a chain, a client's monitor and its core, and the guard of a signing key for C, and for all
+//! that calls C. Nothing here takes memory but the stack, starts a thread, keeps anything after a call or calls anybody back.
 //!
-//! Each export checks the lengths that are passed, so a call has one precondition: the bytes are there. `include/coniks.h`
-//! describes the calls for C.
+//! Each export checks the lengths that are passed, so a call has one precondition: the bytes are there. The headers in `include/`
+//! describe the calls for C.
 #![tactic(auto)]
 
 mod auditor;
@@ -22,6 +22,8 @@ mod core_values;
 mod core_watch;
 mod entries;
 mod evidence;
+mod guard;
+mod guard_status;
 mod monitor;
 mod status;
 mod text;
@@ -52,6 +54,10 @@ pub use core_values::{RawAsking, RawFound, RawNeeds, RawPresent, RawVerdicts, Ra
 pub use core_watch::{coniks_core_expect, coniks_core_watch};
 pub use entries::{coniks_body_bytes, coniks_entry_body, coniks_link};
 pub use evidence::coniks_convicts;
+pub use guard::{
+    RawSignature, coniks_guard_abandon, coniks_guard_adopt, coniks_guard_answer, coniks_guard_ask,
+    coniks_guard_sign,
+};
 pub use monitor::coniks_monitor_step;
 pub use text::coniks_text;
 pub use values::{Bytes32, Bytes145, EntryBody, RawAuditorState};

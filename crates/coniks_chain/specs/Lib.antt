@@ -7,3 +7,5 @@ pub mod Evidence
 pub mod Pair
 pub mod Clients
 pub mod Signing
+pub mod Guard
+pub mod GuardRun

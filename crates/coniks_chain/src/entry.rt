@@ -48,7 +48,7 @@ pub struct Entry {
 pub(crate) const LINK_TAG: u8 = 0x53;
 
 /// Proves that an array has its length.
-fn full<const N: usize>(bytes: &[u8; N])
+pub(crate) fn full<const N: usize>(bytes: &[u8; N])
     ensures { length bytes.now ≡ N }
 {
     let _ = bytes;

@@ -6,6 +6,7 @@ ghost use Rattle.coniks_proof.specs.declared.paths.Proof.{Proof};
 ghost use Rattle.coniks_chain.specs.Chain.{Continues, Follows, GoodChain, IsFirstRefused, before_at};
 ghost use Rattle.coniks_chain.specs.Clients.{TwoClients};
 ghost use Rattle.coniks_chain.specs.Evidence.{Begins, Convicts, HasBodyOf, HasPolicy, IsFirstEvidence};
+ghost use Rattle.coniks_chain.specs.GuardRun.{GuardLaw, GuardedNeverConvict, UsedLaw};
 ghost use Rattle.coniks_chain.specs.Watch.{IsFirstUnsound, IsSoundRun, entries_watched};
 ghost use Rattle.coniks_chain.specs.declared.auditor.AuditFault.{AuditFault};
 ghost use Rattle.coniks_chain.specs.declared.auditor.AuditorState.{AuditorState};
@@ -78,4 +79,21 @@ pub fn forks_convict()
 pub fn one_chain_never_convicts()
     ensures { (hash : Octets → Octets) (verdict : Octets → Octets → Bool) (chain : List Entry) (policy : Octets) (a b : Entry) → GoodChain hash verdict chain
         → HasPolicy policy chain → HasBodyOf chain a → HasBodyOf chain b → (kind : EvidenceKind) → ¬ Convicts a b kind }
+{}
+
+/// Proves that a key behind a guard signs one good chain under one policy, and that no two entries whose signatures were returned
+/// are evidence.
+///
+/// This holds over all steps of any processes on one record. Each body of which a signature was returned is in the chain, and no body
+/// that was ever abandoned is.
+pub fn guard_signs_one_chain()
+    ensures chain { GuardLaw }
+    ensures evidence { GuardedNeverConvict }
+{}
+
+/// Proves that a guard's records lose no body for which the key may have been used.
+///
+/// A body that was open is signed or abandoned later, or is still open.
+pub fn guard_accounts_for_bodies()
+    ensures { UsedLaw }
 {}

@@ -1,10 +1,11 @@
-//! The chain of signed tree roots (STRs) of a CONIKS key directory, its auditor and a client's monitor.
+//! The chain of signed tree roots (STRs) of a CONIKS key directory, its auditor, a client's monitor, and a guard of the signing key.
 //!
 //! A directory signs the root of its tree at each epoch, together with the hash of the entry before it (Melara,
 //! Blankstein, Bonneau, Felten, Freedman: CONIKS, USENIX Security 2015, section 3). An entry is the encoding of one STR.
 //! An auditor verifies such a chain. A client's monitor also checks a proof for its own name at each entry. Two chains
 //! that end in one link are the same, or `extract_history` finds a collision of the hash in them. Two chains of one signing
-//! key that part contain two entries that convict the key's owner, and `find_evidence` finds them.
+//! key that part contain two entries that convict the key's owner, and `find_evidence` finds them. A key that is used through a
+//! guard signs one chain: `guard` has the steps, and `guard_record` the record that they change.
 //!
 //! An auditor takes the entries, and a type that verifies their signatures:
 //!
@@ -34,6 +35,8 @@
 pub mod auditor;
 pub mod entry;
 pub mod evidence;
+pub mod guard;
+pub mod guard_record;
 pub mod history;
 pub mod laws;
 pub mod monitor;

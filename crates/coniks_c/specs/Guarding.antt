@@ -1,0 +1,50 @@
+-- A guard's record as C has it, and the numbers that its calls return.
+use Rattle.std.specs.Prelude.{◌+◌, ℕ, List}
+use Rattle.coniks_chain.specs.declared.entry.Signature.{Signature}
+use Rattle.coniks_chain.specs.Guard.{Guarded, ask_place, bodies_in, held_in, with_abandoned}
+use Rattle.coniks_chain.specs.declared.guard.AskFault.{AskFault}
+use Rattle.coniks_chain.specs.declared.guard.SignFault.{SignFault}
+use Rattle.coniks_chain.specs.declared.guard.SignFault.TheVariants as sign
+use Rattle.coniks_chain.specs.declared.guard.AbandonFault.{AbandonFault}
+use Rattle.coniks_chain.specs.declared.guard.AbandonFault.TheVariants.{MayBeSigned, RecordOld}
+use Rattle.coniks_chain.specs.declared.guard.AdoptFault.{AdoptFault}
+use Rattle.coniks_chain.specs.declared.guard.AdoptFault.TheVariants.{OtherBodies, NoEntry}
+use Rattle.coniks_chain.specs.declared.guard_record.Answer.{Answer}
+use Rattle.coniks_chain.specs.declared.guard_record.Answer.TheVariants.{Abandoned, Signed, Unsettled}
+use Rattle.coniks_chain.specs.declared.guard_record.RawBody.{RawBody}
+use Rattle.coniks_chain.specs.declared.guard_record.RawHeld.{RawHeld}
+
+-- the record whose abandoned bodies are these
+abbrev pub record_in : RawHeld → List RawBody → Guarded
+record_in raw abandoned = with_abandoned (held_in raw) (bodies_in abandoned)
+
+-- a body that the key must not sign
+abbrev pub ask_status : AskFault → ℕ
+ask_status fault = ask_place fault + 112
+
+-- a signature that is not stored
+abbrev pub sign_status : SignFault → ℕ
+sign_status sign.NotAsked = 123
+sign_status sign.OtherOpen = 122
+
+-- a body that can't be abandoned
+abbrev pub abandon_status : AbandonFault → ℕ
+abandon_status MayBeSigned = 124
+abandon_status RecordOld = 125
+
+-- an entry that can't be adopted
+abbrev pub adopt_status : AdoptFault → ℕ
+adopt_status OtherBodies = 126
+adopt_status NoEntry = 127
+
+-- what a record says of a body
+abbrev pub answer_number : Answer → ℕ
+answer_number Unsettled = 0
+answer_number (Signed signature) = 1
+answer_number Abandoned = 2
+
+-- what holds of the signature, if a record says that a body was signed
+abbrev pub IfSigned : Answer → (Signature → Type 0) → Type 0
+IfSigned (Signed signature) holds = holds signature
+IfSigned Abandoned holds = Unit {0}
+IfSigned Unsettled holds = Unit {0}
