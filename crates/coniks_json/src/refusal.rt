@@ -1,6 +1,6 @@
 //! Why a line is refused.
 
-ghost use Rattle.std.specs.Prelude.{◌≡◌, IfOk, Some};
+ghost use Rattle.std.specs.Prelude.{◌≡◌, IfOk, OnErr, Some};
 ghost use Rattle.serde_json.specs.Written.{compact_text};
 ghost use Rattle.coniks_json.specs.Refusals.{IsRefusable, refusal_data, refusal_of, refused_as};
 
@@ -74,7 +74,8 @@ impl Refusal {
 /// `AllocError` if the error is that an allocation failed.
 pub fn batch_refusal(fault: BatchFault) -> Result<Refusal, AllocError>
     requires { IsRefusable fault }
-    ensures { IfOk result (λ why. refused_as fault ≡ Some (refusal_of why)) }
+    ensures refusal { IfOk result (λ why. refused_as fault ≡ Some (refusal_of why)) }
+    ensures memory { OnErr result (fault ≡ BatchFault.OutOfMemory) }
 {
     match fault {
         BatchFault::BatchTooLong => Ok(Refusal::BatchTooLong),

@@ -1,6 +1,6 @@
 //! Nodes as the table has them.
 
-ghost use Rattle.std.specs.Prelude.{◌≡◌, ◌<◌, ◌^◌};
+ghost use Rattle.std.specs.Prelude.{◌≡◌, ◌↔◌, ◌<◌, ◌≤◌, ◌+◌, ◌^◌, true};
 ghost use Rattle.coniks_tree.specs.Packed.{greatest_child};
 ghost use Rattle.coniks_tree.specs.Table.{hash_of_node};
 
@@ -9,7 +9,14 @@ use coniks_proof::Digest;
 use std::marker::Model;
 
 /// The most nodes of a table, whose numbers have 48 bits.
-pub(crate) const MAX_NODES: usize = 0x1_0000_0000_0000;
+const MAX_NODES: usize = 0x1_0000_0000_0000;
+
+/// Returns whether a table of this many nodes has numbers for further ones.
+pub(crate) fn has_numbers(nodes: usize, more: usize) -> bool
+    ensures { result ≡ true ↔ nodes + more ≤ 2 ^ 48 }
+{
+    nodes.saturating_add(more) <= MAX_NODES
+}
 
 /// The kind of a node.
 #[derive(Clone, Copy)]

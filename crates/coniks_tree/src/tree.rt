@@ -19,7 +19,7 @@ use crate::attach::append;
 use crate::entries::{changes_at, list_places};
 use crate::growth::grow_part;
 use crate::halving::side;
-use crate::packed::{MAX_NODES, PackedNode};
+use crate::packed::{PackedNode, has_numbers};
 use crate::page::{list_beyond, list_first};
 use crate::part::{Change, Part, hash_at, join_parts, new_nodes};
 use crate::path::{Stop, last_number, path_from, stop_at};
@@ -344,7 +344,7 @@ impl Tree {
         ensures room_records { OnOk result (length self.new.records + records ≤ self.new.record_room) }
     {
         let count = new_nodes(part);
-        if self.nodes.len().saturating_add(count) > MAX_NODES {
+        if !has_numbers(self.nodes.len(), count) {
             return Err(OutOfMemory);
         }
         self.nodes.try_reserve(count)?;

@@ -53,8 +53,8 @@ fn all_pages(
     found
 }
 
-/// 1,000 pages of 100, and 100,000 of 1, list a tree of 100,000 names. If a page cost as much as the tree, the test would
-/// take minutes.
+/// 1,000 pages of 100, 100,000 of 1, and one of any number list a tree of 100,000 names. If a page cost as much as the tree,
+/// the test would take minutes.
 #[test]
 fn pages_of_a_large_tree(rt: HostRuntime) {
     let (epochs, root) = large_tree(&rt, rt.alloc());
@@ -64,7 +64,7 @@ fn pages_of_a_large_tree(rt: HostRuntime) {
         &epochs.entries(root).expect(&rt, "memory"),
         &mut entries,
     );
-    for most in [100, 1] {
+    for most in [100, 1, usize::MAX] {
         assert!(rt; all_pages(&rt, rt.alloc(), &epochs, root, most) == entries);
     }
 }

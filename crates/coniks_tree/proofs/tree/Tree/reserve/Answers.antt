@@ -5,4 +5,5 @@ pub returns-clause-room_nodes : goal.returns-clause-room_nodes
 returns-clause-room_nodes c =
     let counted = c.new_nodes-count.ensures (length c.args.self.now.nodes) 0 c.requires in
     let reserved = c.in_ok-try_reserve.ensures.ok in
-    omega (arith, counted, reserved, c.if-saturating_add-gt-MAX_NODES.false, c.saturating_add.ensures, c.len.ensures, c.try_reserve.ensures.len, c.try_reserve.new.self.ok.0)
+    let few = c.has_numbers.ensures.0 c.if-not-has_numbers.false in
+    omega (arith, counted, reserved, few, c.len.ensures, c.try_reserve.ensures.len, c.try_reserve.new.self.ok.0)
