@@ -291,13 +291,13 @@ module _ (hash index_of also : List ℕ → List ℕ) where
   steps_agree start _ _ agree (begun s has) = begun s (begun_agree start s agree has)
   steps_agree start _ _ agree (stayed batches s later run same) =
       stayed batches s later (steps_agree start batches s (subst (λ (x : State). AgreeOn index_of also (latest_registry (history_of x))) same agree) run) same
-  steps_agree start _ _ agree (committed batches b s later depth workers published capacity run accepted may history grows) =
+  steps_agree start _ _ agree (committed batches b s later depth workers run accepted may history grows) =
       let left = ap latest_registry history ∙ at_end latest_registry (λ x. x.registry) (λ x. refl) (λ x y xs. refl) (history_of s) (shown_with s b.new_nonce b.ops b.t) in
       let on : AgreeOn index_of also (after (latest_registry (history_of s)) b.ops) = subst (AgreeOn index_of also) left agree in
       let before : AgreeOn index_of also (latest_registry (history_of s)) = λ name has. on name (has_still (latest_registry (history_of s)) (map bound_by b.ops) name has) in
-      committed batches b s later depth workers published capacity (steps_agree start batches s before run)
+      committed batches b s later depth workers (steps_agree start batches s before run)
       (accepted_agree (latest_registry (history_of s)) b.ops depth workers on accepted) may history grows
-  steps_agree start _ _ agree (installed batches b earlier s later update depth workers published capacity run prepared since may history grows) =
+  steps_agree start _ _ agree (installed batches b earlier s later update depth workers run prepared since may history grows) =
       let left = ap latest_registry history ∙ at_end latest_registry (λ x. x.registry) (λ x. refl) (λ x y xs. refl) (history_of s) (shown_after s update b.t) in
       let same = fresh_registry hash index_of earlier s update since prepared.is_update may.fresh in
       let showed = fresh_history hash index_of earlier s update since prepared.is_update may.fresh in
@@ -305,5 +305,5 @@ module _ (hash index_of also : List ℕ → List ℕ) where
       let left_by : AgreeOn index_of also (after (latest_registry (history_of s)) b.ops) = subst
       (AgreeOn index_of also) (prepared.registry ∙ ap (λ ss. after (latest_registry ss) b.ops) (sym showed)) on in
       let before : AgreeOn index_of also (latest_registry (history_of s)) = λ name has. left_by name (has_still (latest_registry (history_of s)) (map bound_by b.ops) name has) in
-      installed batches b earlier s later update depth workers published capacity (steps_agree start batches s before run)
+      installed batches b earlier s later update depth workers (steps_agree start batches s before run)
       (prepared_agree earlier b.new_nonce b.ops depth workers update on prepared) since may history grows

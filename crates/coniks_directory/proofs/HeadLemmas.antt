@@ -1,8 +1,8 @@
 -- The heads of a chain, whose epochs increase.
-use Rattle.std.proofs.Common.{◌≡◌, ℕ, suc, ◌+◌, ◌≤◌, get_or, append_assoc, length-append, List, [], ◌∷◌, ◌++◌, length, map, refl, sym, ap, subst, ◌∙◌, arith, Option, Some, None, slice_get}
+use Rattle.std.proofs.Common.{◌≡◌, ℕ, suc, ◌+◌, ◌≤◌, get_or, append_assoc, length-append, List, [], ◌∷◌, ◌++◌, length, map, refl, sym, ap, subst, ◌∙◌, arith, Option, Some, slice_get}
 use Rattle.coniks_proof.specs.Octets.{Octets}
 use Rattle.coniks_directory.proofs.Words.{AreRising, AuditorState, Begins, Body, Head, IsChainOf, Shown, before_at, epoch_before, head_at, heads_of, last_of, link_before}
-use Rattle.coniks_directory.proofs.Words.{map-map, numbers_of, same_Some, zeros}
+use Rattle.coniks_directory.proofs.Words.{map-map, numbers_of, same_Some}
 use Rattle.coniks_chain.specs.Entries.{link_preimage}
 use Rattle.coniks_chain.specs.declared.entry.Entry.{Entry}
 use Rattle.coniks_directory.proofs.NumberLemmas.{rising-sorted}
@@ -43,18 +43,6 @@ no_older hash index_of policy before history chain had has latest answer is up b
     let long : length (heads_of hash chain) ≡ length has + length within.0 = ap length within.1 ∙ length-append has within.0 in
     let sorted = rising-sorted epoch (epoch_before before) (heads_of hash chain) rise first.0 last.0 latest (omega (arith, first.1, last.1)) (omega (arith, last.1)) in
     subst (λ h. latest.epoch ≤ h.epoch) other (subst (λ h. h.epoch ≤ epoch (get_or (heads_of hash chain) last.0 latest)) one sorted)
-
--- the link of a head, or zeros if there is none
-abbrev pub link_in : Option Head → Octets
-link_in None = zeros
-link_in (Some h) = h.link.0
-
--- the last head has the link that the next entry contains
-pub last_links : (hash : Octets → Octets) (before : Option AuditorState) (chain : List Entry) → (chain ≡ [] → before ≡ None)
-    → link_in (last_of (heads_of hash chain)) ≡ link_before (before_at hash before chain (length chain))
-last_links hash before [] begun = sym (ap link_before (begun refl))
-last_links hash before (e ∷ []) begun = refl
-last_links hash before (e ∷ f ∷ chain) begun = last_links hash before (f ∷ chain) (λ none. absurd (let never = none in cc))
 
 -- an entry that follows this chain contains the link of its last entry
 pub link_of_last : (hash : Octets → Octets) (before : Option AuditorState) (chain : List Entry) (entry : Entry)

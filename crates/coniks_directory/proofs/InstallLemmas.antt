@@ -11,8 +11,10 @@ use Rattle.coniks_chain.specs.declared.entry.Entry.{Entry}
 use Rattle.coniks_proof.specs.declared.values.Head.{Head}
 use Rattle.coniks_shared.specs.Boards.{BoardEnd, board_end}
 use Rattle.coniks_directory.specs.Directories.{heads}
-use Rattle.coniks_directory.specs.Installs.{Keeps}
+use Rattle.coniks_directory.specs.Installs.{Follows, Keeps}
 use Rattle.coniks_directory.specs.Installed.{Attached}
+use Rattle.coniks_directory.specs.State.{IsLinked, state_of}
+use Rattle.coniks_directory.specs.declared.state.DirectoryState.{DirectoryState}
 use Rattle.coniks_chain.proofs.Lemmas.{continues_push, continues_same_verdict}
 use Rattle.coniks_tree.proofs.Lemmas.{Extends-append, Shows-extended, get-push}
 use Rattle.coniks_directory.proofs.ChainLemmas.{chain-push, follows_next, is_last, last-from, latest-known, rising-push, under-push}
@@ -187,3 +189,17 @@ kept_still {H} {X} {S} digest verdict_of d later old new publisher same_state sa
       heads = published ∙ ap (λ (h : H). heads_of (digest h) d.state.chain) hash ∙ ap (λ (s : State). heads_of (digest later.hash) s.chain) state;
       table = refl;
     }
+
+-- what is held in the same state, with the same link, has the link of its last entry if that was so
+pub linked_still : (hash : List ℕ → List ℕ) (held later : DirectoryState) → state_of later ≡ state_of held → later.link ≡ held.link → IsLinked hash held → IsLinked hash later
+linked_still hash held later same link linked =
+    ap (λ (d : Digest). d.0) link ∙ linked
+    ∙ ap (λ (s : State). link_before (before_at hash s.before s.chain (length s.chain))) (sym same)
+
+-- and it follows, whatever entry was to be added
+pub follows_still : {H X : Type 0} (digest : H → List ℕ → List ℕ) (d later : View H X) (entry : Entry) → later.state ≡ d.state → later.hash ≡ d.hash → Follows digest d later entry
+follows_still {H} {X} digest d later entry same_state same_hash = record {
+  grows = subst (λ (s : State). Grows d.state s) (sym same_state) (Grows-refl d.state);
+  good = λ verdict signed good. subst (λ (s : State). Continues (digest later.hash) verdict s.before s.chain) (sym same_state)
+      (subst (λ (h : H). Continues (digest h) verdict d.state.before d.state.chain) (sym same_hash) good);
+}

@@ -28,5 +28,6 @@ mod SuppliedLemmas
 mod SuppliedBatchLemmas
 mod RestoreLemmas
 mod AlikeLemmas
+mod OneEntryLemmas
 mod BindingsLemmas
 mod RestoreIndexLemmas

@@ -7,7 +7,7 @@ use Rattle.coniks_directory.proofs.Words.{ArePendingRecords, BTreeMap, Entry, Is
 use Rattle.coniks_directory.specs.Restored.{IsRestoring, registration, registrations}
 use Rattle.coniks_directory.specs.Supplied.{AgreeOn, Supplied, is_supplied, supplied_index}
 use Rattle.coniks_directory.specs.SuppliedBatches.{AreOf, binding_index, indices_by, indices_in, put_indices}
-use Rattle.coniks_directory.specs.declared.supplied_batch.SuppliedBindings.{SuppliedBindings}
+use Rattle.coniks_directory.specs.declared.supplied_batch.OwnedBindings.{OwnedBindings}
 use Rattle.coniks_proof.proofs.Lemmas.{named_in}
 use Rattle.coniks_directory.proofs.AgreementLemmas.{entries_agree, first_agree, has_either, has_old}
 use Rattle.coniks_directory.proofs.PendingLemmas.{by_records, front, record_in}
@@ -15,7 +15,7 @@ use Rattle.coniks_directory.proofs.RestoreLemmas.{added_faultless, added_ops, bo
 use Rattle.coniks_directory.proofs.SuppliedBatchLemmas.{has_indices, held_is, held_take, kept_agree, put_of}
 
 -- bound names keep their indices
-pub bound_agree : (index_of : List ℕ → List ℕ) (bound : List Registered) (batch : SuppliedBindings) → AgreeOn index_of (binding_index index_of bound batch) bound
+pub bound_agree : (index_of : List ℕ → List ℕ) (bound : List Registered) (batch : OwnedBindings) → AgreeOn index_of (binding_index index_of bound batch) bound
 bound_agree index_of bound batch = λ name has. rw has refl
 
 pub agree_back : (index_of also : List ℕ → List ℕ) (bound : List Registered) → AgreeOn index_of also bound → AgreeOn also index_of bound
@@ -46,7 +46,7 @@ restoring_agree hash index_of also entry s records numbers agree r =
     let all : AgreeOn index_of also (after [] ops) = λ name has.
     agree name (subst (λ (bs : List Registered). has_name bs name ≡ true) (bound_registrations (map registered_of records)) (has_old (map bound_by ops) name has)) in
     record {
-      begins = r.begins;
+      formed = r.formed;
       opened = r.opened;
       pending = pending_agree hash index_of also (map registered_of records) records numbers agree r.pending;
       faultless = sym (first_agree hash index_of also [] ops all) ∙ r.faultless;
@@ -66,7 +66,7 @@ held_drop index_of (r ∷ rs) (suc n) held = held_drop index_of rs n held.1
 
 -- ---- bindings that come with their indices, after those of records
 
-module _ (hash : List ℕ → List ℕ) (source : List Supplied) (batch : SuppliedBindings) (entry : Signed) (s : State)
+module _ (hash : List ℕ → List ℕ) (source : List Supplied) (batch : OwnedBindings) (entry : Signed) (s : State)
     (old new : List Record) (numbers numbers' : BTreeMap (List ℕ) ℕ) (ops : List Operation)
     (r : IsRestoring hash (supplied_index source) entry s old numbers) where
   abbrev bound : List Registered
@@ -98,6 +98,9 @@ module _ (hash : List ℕ → List ℕ) (source : List Supplied) (batch : Suppli
     pub rest_indices : indices_in rest ≡ indices_by given ops
     rest_indices = held_is given rest ops rest_binds held_rest
 
+    pub first_indices : (n : ℕ) → indices_in (take n rest) ≡ take n (indices_by given ops)
+    first_indices n = sym (take-map (λ (x : Record). (x.binding.name, x.index.0)) n rest) ∙ ap (take n) rest_indices
+
     -- all indices are supplied
     all_put : AgreeOn given (supplied_index (put_indices source (indices_in rest))) (map registered_of new)
     all_put name has =
@@ -112,7 +115,7 @@ module _ (hash : List ℕ → List ℕ) (source : List Supplied) (batch : Suppli
         → IsRestoring hash (supplied_index (put_indices source (indices_in rest))) entry s new numbers'
     restoring_more none =
         restoring_agree hash given (supplied_index (put_indices source (indices_in rest))) entry s new numbers' all_put (record {
-          begins = r.begins;
+          formed = r.formed;
           opened = r.opened;
           pending = by_records hash given (bound ++ map bound_by ops) new numbers' p;
           faultless = added_faultless hash given old new numbers' ops p was.faultless none;
@@ -142,7 +145,7 @@ module _ (hash : List ℕ → List ℕ) (source : List Supplied) (batch : Suppli
           let before : has_name bound name ≡ true = subst (λ (bs : List Registered). has_name bs name ≡ true) binds has in
           sym (bound_agree (supplied_index source) bound batch name before) ∙ some_kept name before in
           restoring_agree hash given some entry s left numbers'' agree (record {
-            begins = r.begins;
+            formed = r.formed;
             opened = r.opened;
             pending = q;
             faultless = ap (first_fault given []) left_ops ∙ was.faultless;

@@ -5,12 +5,13 @@ use Rattle.coniks_proof.specs.Batches.{Kind, change, key_length, name_length, na
 use Rattle.coniks_proof.specs.Hashing.{hashing}
 use Rattle.coniks_proof.specs.Registry.{root_of}
 use Rattle.coniks_tree.specs.Table.{table}
+use Rattle.coniks_chain.specs.Evidence.{IsWellFormed}
 use Rattle.coniks_chain.specs.declared.entry.Entry.{Entry}
 use Rattle.coniks_tree.specs.Parts.{node_count}
 use Rattle.coniks_directory.specs.Built.{IsCounted}
 use Rattle.coniks_directory.specs.Installed.{Attached, IsFirst}
 use Rattle.coniks_directory.specs.Nodes.{epoch_nodes}
-use Rattle.coniks_directory.specs.Restored.{MayBegin, RestoringView, Restores, registration, registrations, restored_epoch, said_before}
+use Rattle.coniks_directory.specs.Restored.{RestoringView, Restores, registration, registrations, restored_epoch, said_before}
 use Rattle.coniks_directory.specs.State.{opened}
 use Rattle.coniks_proof.proofs.Lemmas.{placed_none}
 use Rattle.coniks_directory.proofs.MirrorLemmas.{mirrored_root}
@@ -105,7 +106,7 @@ part_root hash index_of s p root u root-is =
     root-is u.entries u.stands ∙ mirrored_root hash index_of p.nonce.0 (records_after s p) u.entries (registry_after s p) u.mirrors
 
 -- an update of bindings on the state of `open` is that of the entry
-pub first_of : (hash index_of : List ℕ → List ℕ) (s : State) (p : Prepared) (ops : List Operation) (entry : Entry) → MayBegin entry
+pub first_of : (hash index_of : List ℕ → List ℕ) (s : State) (p : Prepared) (ops : List Operation) (entry : Entry) → IsWellFormed entry.body
     → p.version ≡ entry.body.version → p.nonce ≡ entry.body.nonce → registry_after s p ≡ after [] ops
     → entry.body.root.0 ≡ root_of hash index_of p.nonce.0 (registry_after s p) → IsFirst hash index_of s p ops entry
 first_of hash index_of s p ops entry may version nonce registry root = record {
@@ -117,7 +118,7 @@ first_of hash index_of s p ops entry may version nonce registry root = record {
 }
 
 -- an update on the state of `open` with the entry's version and nonce: version 2 is that of a rotation to the nonce
-rotation : (entry : Entry) (p : Prepared) → MayBegin entry → p.version ≡ entry.body.version → p.nonce.0 ≡ entry.body.nonce.0
+rotation : (entry : Entry) (p : Prepared) → IsWellFormed entry.body → p.version ≡ entry.body.version → p.nonce.0 ≡ entry.body.nonce.0
     → (new_nonce : Option (List ℕ)) × RotatesTo (opened entry.body.nonce.0 entry.body.policy) new_nonce p
 rotation entry p may version nonce = elim may.version [
   | inl one ↦ (None, record { version = version ∙ one; nonce = nonce })
@@ -126,7 +127,7 @@ rotation entry p may version nonce = elim may.version [
 
 -- what is built from bindings on the empty tree is an update of them
 pub first_built : (hash index_of : List ℕ → List ℕ) (s : State) (entry : Entry) (p : Prepared) (ops : List Operation)
-    → s ≡ opened entry.body.nonce.0 entry.body.policy → MayBegin entry → p.base ≡ length s.epochs → p.version ≡ entry.body.version → p.nonce ≡ entry.body.nonce
+    → s ≡ opened entry.body.nonce.0 entry.body.policy → IsWellFormed entry.body → p.base ≡ length s.epochs → p.version ≡ entry.body.version → p.nonce ≡ entry.body.nonce
     → IsBuilt hash index_of p.nonce.0 (table s.nodes s.records) None [] ops false p.part p.records.items
     → IsUpdate hash index_of s p × (registry_after s p ≡ after [] ops)
 first_built hash index_of s entry p ops is may base version nonce built =
@@ -238,11 +239,19 @@ one_good : (hash : List ℕ → List ℕ) (verdict : List ℕ → List ℕ → B
 one_good hash verdict before entry follows zero e at = subst (Follows verdict before) (same_Some entry e at) follows
 one_good hash verdict before entry follows (suc k) e at = absurd (let never = at in cc)
 
-pub good_first : (hash : List ℕ → List ℕ) (verdict : List ℕ → List ℕ → Bool) (entry : Entry) → MayBegin entry
+pub good_first : (hash : List ℕ → List ℕ) (verdict : List ℕ → List ℕ → Bool) (entry : Entry) → IsWellFormed entry.body
     → verdict (body_bytes entry.body) entry.signature.0 ≡ true → Continues hash verdict (Some (said_before entry)) (entry ∷ [])
 good_first hash verdict entry may signed =
     one_good hash verdict (Some (said_before entry)) entry
     (record { rows = (may.version, (omega arith, (tt, (may.later, (refl, (refl, ((λ first. refl), (signed, tt)))))))) })
+
+-- the first entry of a chain is a good chain by itself
+pub good_alone : (hash : List ℕ → List ℕ) (verdict : List ℕ → List ℕ → Bool) (entry : Entry) → IsWellFormed entry.body → entry.body.t_prev ≡ 0
+    → verdict (body_bytes entry.body) entry.signature.0 ≡ true → Continues hash verdict None (entry ∷ [])
+good_alone hash verdict entry formed first signed =
+    let later = formed.later in
+    one_good hash verdict None entry
+    (record { rows = (formed.version, (tt, (omega (arith, later, first), (tt, (first, (formed.begins first, (tt, (signed, tt)))))))) })
 
 -- ---- a restored chain behind the entries before it
 

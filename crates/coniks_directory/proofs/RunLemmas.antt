@@ -59,9 +59,9 @@ defined_by_steps : (hash index_of : List ℕ → List ℕ) (start : Start) (batc
 defined_by_steps hash index_of start _ _ (begun s has) = defined_first hash index_of start s has
 defined_by_steps hash index_of start _ _ (stayed batches s later run same) = subst
     (IsDefined index_of start batches) (sym same) (defined_by_steps hash index_of start batches s run)
-defined_by_steps hash index_of start _ _ (committed batches b s later depth workers published capacity run accepted may history grows) =
+defined_by_steps hash index_of start _ _ (committed batches b s later depth workers run accepted may history grows) =
     next index_of start batches s (defined_by_steps hash index_of start batches s run) b later _ depth workers grows.nonce grows.policy grows.before accepted may.later history refl
-defined_by_steps hash index_of start _ _ (installed batches b earlier s later update depth workers published capacity run prepared since may history grows) =
+defined_by_steps hash index_of start _ _ (installed batches b earlier s later update depth workers run prepared since may history grows) =
     let rotates = fresh_rotates hash index_of earlier s update since prepared.is_update may.fresh b.new_nonce prepared.rotates in
     let same = fresh_history hash index_of earlier s update since prepared.is_update may.fresh in
     let registry = fresh_registry hash index_of earlier s update since prepared.is_update may.fresh ∙ prepared.registry ∙ ap (λ ss. after (latest_registry ss) b.ops) (sym same) in
@@ -75,10 +75,10 @@ steps_of hash _ _ _ _ (runs.opened index_of nonce policy) = begun _ refl
 steps_of hash _ _ _ _ (runs.restored index_of entry ops s faultless r) = begun s (faultless, r)
 steps_of hash _ _ _ _ (runs.stayed index_of start batches s later run same) = stayed batches s later (steps_of hash index_of start batches s run) same
 steps_of hash _ _ _ _ (runs.supplied index_of also start batches s run agree) = steps_agree hash index_of also start batches s agree (steps_of hash index_of start batches s run)
-steps_of hash _ _ _ _ (runs.committed index_of start batches b s later depth workers published capacity run accepted may history grows) =
-    committed batches b s later depth workers published capacity (steps_of hash index_of start batches s run) accepted may history grows
-steps_of hash _ _ _ _ (runs.installed index_of then start batches b earlier s later update depth workers published capacity run prepared agree since may history grows) =
-    installed batches b earlier s later update depth workers published capacity (steps_of hash index_of start batches s run)
+steps_of hash _ _ _ _ (runs.committed index_of start batches b s later depth workers run accepted may history grows) =
+    committed batches b s later depth workers (steps_of hash index_of start batches s run) accepted may history grows
+steps_of hash _ _ _ _ (runs.installed index_of then start batches b earlier s later update depth workers run prepared agree since may history grows) =
+    installed batches b earlier s later update depth workers (steps_of hash index_of start batches s run)
     (prepared_agree hash then index_of earlier b.new_nonce b.ops depth workers update agree prepared) since may history grows
 
 pub defined_by : (hash index_of : List ℕ → List ℕ) (start : Start) (batches : List Batch) (s : State) → Run hash index_of start batches s → IsDefined index_of start batches s

@@ -1,6 +1,6 @@
 -- Runs with one function of indices.
 use Rattle.std.proofs.Common.{◌≡◌, ℕ, List, [], ◌∷◌, ◌++◌, length, None}
-use Rattle.coniks_directory.proofs.Words.{Batch, first_fault, Grows, IsAccepted, MayInstall, Prepared, State, history_of, latest_registry, shown_after, shown_with}
+use Rattle.coniks_directory.proofs.Words.{Batch, first_fault, Grows, ComesNext, IsAccepted, Prepared, State, history_of, latest_registry, shown_after, shown_with}
 use Rattle.coniks_directory.specs.Restored.{Restores}
 use Rattle.coniks_directory.specs.Runs.{IsPreparedOf, Start, opening, restoring}
 use Rattle.coniks_directory.specs.State.{opened as nothing}
@@ -17,14 +17,14 @@ pub data Steps (hash index_of : List ℕ → List ℕ) (start : Start) : List Ba
   begun : (s : State) → HasBegun hash index_of start s → Steps hash index_of start [] s
   -- a call that was refused, or that only reads
   stayed : (batches : List Batch) (s later : State) → Steps hash index_of start batches s → later ≡ s → Steps hash index_of start batches later
-  committed : (batches : List Batch) (b : Batch) (s later : State) (depth workers published capacity : ℕ) → Steps hash index_of start batches s
+  committed : (batches : List Batch) (b : Batch) (s later : State) (depth workers : ℕ) → Steps hash index_of start batches s
       → IsAccepted index_of (latest_registry (history_of s)) b.ops depth workers
-      → MayInstall s (length s.epochs) b.t published capacity
+      → ComesNext s (length s.epochs) b.t
       → history_of later ≡ history_of s ++ shown_with s b.new_nonce b.ops b.t ∷ [] → Grows s later
       → Steps hash index_of start (batches ++ b ∷ []) later
   -- the update was prepared earlier, with any calls in between
-  installed : (batches : List Batch) (b : Batch) (earlier s later : State) (update : Prepared) (depth workers published capacity : ℕ) → Steps hash index_of start batches s
+  installed : (batches : List Batch) (b : Batch) (earlier s later : State) (update : Prepared) (depth workers : ℕ) → Steps hash index_of start batches s
       → IsPreparedOf hash index_of earlier b.new_nonce b.ops depth workers update → Grows earlier s
-      → MayInstall s (base_of update) b.t published capacity
+      → ComesNext s (base_of update) b.t
       → history_of later ≡ history_of s ++ shown_after s update b.t ∷ [] → Grows s later
       → Steps hash index_of start (batches ++ b ∷ []) later

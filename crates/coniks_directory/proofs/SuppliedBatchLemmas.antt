@@ -1,6 +1,6 @@
 -- Batches whose operations have indices: the indices that they are checked with, their first error, and what an install supplies.
 use Rattle.std.proofs.Common.{◌≡◌, ◌≤◌, ◌<◌, ◌⊎◌, get_or, ℕ, zero, suc, ◌+◌, List, [], ◌∷◌, ◌++◌, length, map, take, drop, Bool, true, false, ◌||◌, refl, sym, ap, subst, ◌∙◌, arith, length-append, inl, inr, Option, Some, None, Result, Ok, Err, if◌then◌else◌, slice_get, nat_lt, nat_le}
-use Rattle.std.specs.Prelude.{IfErr, IfOk, OnErr, OnOk}
+use Rattle.std.specs.Prelude.{IfErr, IfOk, OnOk}
 use Rattle.std.specs.Bool.{then_some}
 use Rattle.std.specs.Option.{option_or}
 use Rattle.std.specs.Result.{is_err}
@@ -9,12 +9,9 @@ use Rattle.std.specs.BTreeMap.{insert_entry}
 use Rattle.std.specs.Ordering.{match_ordering}
 use Rattle.std.specs.declared.cmp.Ordering.{Ordering}
 use Rattle.std.specs.declared.cmp.Ordering.TheVariants.{Equal, Greater, Less}
-use Rattle.std.proofs.lemmas.List.{take-map, take_all}
+use Rattle.std.proofs.lemmas.List.{take-map}
 use Rattle.std.proofs.Math.Path.{fun_ext}
 use Rattle.coniks_proof.specs.declared.values.TheConstants.{MAX_OPERATIONS}
-use Rattle.coniks_chain.specs.declared.entry.Entry.{Entry}
-use Rattle.coniks_shared.specs.Boards.{BoardEnd}
-use Rattle.coniks_directory.specs.Installs.{IsInstallResult, LeavesSupplied}
 use Rattle.coniks_directory.specs.Judged.{IsJudgedFault}
 use Rattle.coniks_directory.specs.declared.batch.BatchFault.{BatchFault}
 use Rattle.coniks_directory.specs.declared.batch.OpFault.{OpFault}
@@ -23,12 +20,12 @@ use Rattle.coniks_directory.specs.declared.supplied_batch.SuppliedBatchFault.{Su
 use Rattle.coniks_directory.specs.declared.supplied_batch.SuppliedBatchFault.TheVariants.{Batch as InBatch, OtherIndex}
 use Rattle.coniks_proof.specs.Batches.{name_length, key_length, name_twice, name_taken, name_unknown}
 use Rattle.coniks_proof.specs.declared.values.Index.{Index}
-use Rattle.coniks_directory.proofs.Words.{Fault, Grows, Op, Operation, Prepared, Record, Registered, Registry, Shown, State, View, Whole, at_drop_all, at_drop_more, bound_by, bytes_eq, bytes_eq-Decides, fault_from, fault_of, first_fault}
+use Rattle.coniks_directory.proofs.Words.{Fault, Grows, Op, Operation, Prepared, Record, Registered, Registry, Shown, State, Whole, at_drop_all, at_drop_more, bound_by, bytes_eq, bytes_eq-Decides, fault_from, fault_of, first_fault}
 use Rattle.coniks_directory.proofs.Words.{get_or_from_slice_get, has_name, history_of, index_clash, is_eq, is_eq-slice_cmp, latest_registry, map-append, nat_cmp, operation_of, operations, or_cases, placed, registered_of, registry_after, slice_cmp, slice_get-get_or, slice_get_read, slice_get_within, zeros}
 use Rattle.coniks_directory.specs.Supplied.{AgreeOn, Supplied, is_supplied, supplied_index}
-use Rattle.coniks_directory.specs.SuppliedBatches.{AreOf, Indexed, IsEarliest, IsFresh, IsSuppliedFault, IsWithin, SuppliedFault, earlier_of, earliest, given_index, has_other, index_in, indexed, indices_by, indices_in, indices_of, named_in, of_operation, operations_of, or_other, other_from, other_index, placed_fault}
+use Rattle.coniks_directory.specs.SuppliedBatches.{AreOf, Indexed, IsEarliest, IsFresh, IsSuppliedFault, IsWithin, SuppliedFault, earlier_of, earliest, given_index, has_other, index_in, indexed, indices_by, indices_in, named_in, of_operation, operations_of, or_other, other_from, other_index, placed_fault}
 use Rattle.coniks_directory.specs.SuppliedBatches.{IsSuppliedUpdate, LeavesIndices, put_index, put_indices, supplied_fault, supplied_fault_from, supplied_fault_is}
-use Rattle.coniks_directory.specs.Updates.{IsRefused, MayInstall, base_of, refusals}
+use Rattle.coniks_directory.specs.Updates.{IsNotNext, base_of}
 use Rattle.coniks_directory.specs.declared.update.InstallFault.{InstallFault}
 use Rattle.coniks_directory.specs.declared.update.InstallFault.TheVariants as install
 use Rattle.coniks_directory.proofs.AgreementLemmas.{leaves_name}
@@ -504,40 +501,17 @@ held_take index (r ∷ rs) (suc n) held = (held.0, held_take index rs n held.1)
 
 -- ---- what a refused install leaves
 
--- an error before the indices are supplied
-pub left_none : (given old : List Supplied) (fault : InstallFault) → refusals fault ≡ 0 → LeavesIndices given old old fault
-left_none given old (install.Stale latest) none = refl
-left_none given old (install.EpochNotLater latest) none = refl
-left_none given old install.BoardFull none = refl
-left_none given old install.OutOfMemory none = (0, refl)
-left_none given old install.SignerRefused none = absurd (let never = none in cc)
+-- an error before they are supplied
+pub left_none : (s : State) (base t : ℕ) (given old : List Supplied) (fault : InstallFault) → IsNotNext s base t fault → LeavesIndices given old old fault
+left_none s base t given old (install.Stale latest) why = refl
+left_none s base t given old (install.EpochNotLater latest) why = refl
+left_none s base t given old install.BoardFull why = refl
+left_none s base t given old install.OutOfMemory why = (0, refl)
+left_none s base t given old install.SignerRefused why = refl
 
 -- an error while they are supplied
 pub left_some : (records : List Record) (old : List Supplied) (n : ℕ) → LeavesIndices (indices_in records) old (put_indices old (indices_in (take n records))) install.OutOfMemory
 left_some records old n = (n, ap (put_indices old) (sym (take-map (λ (r : Record). (r.binding.name, r.index.0)) n records)))
-
--- and an error after that
-pub left_all : (s : State) (base t published capacity : ℕ) (given old : List Supplied) (fault : InstallFault) → MayInstall s base t published capacity
-    → IsRefused s base t published capacity fault → LeavesIndices given old (put_indices old given) fault
-left_all s base t published capacity given old (install.Stale latest) may why = absurd (why.1 may.fresh)
-left_all s base t published capacity given old (install.EpochNotLater latest) may why = absurd (let later = may.later in let at = why.0 in let before = why.2 in omega arith)
-left_all s base t published capacity given old install.BoardFull may why = absurd (may.room why.2)
-left_all s base t published capacity given old install.OutOfMemory may why = (length given, ap (put_indices old) (sym (take_all (length given) given (omega arith))))
-left_all s base t published capacity given old install.SignerRefused may why = refl
-
--- and what else it leaves, if the install does not change the source
-pub left_supplied : {H : Type 0} (update : Prepared) (t published capacity : ℕ) (d supplied later : View H (List Supplied)) (before after : BoardEnd) (result : Result Entry (InstallFault × Prepared))
-    → MayInstall d.state (base_of update) t published capacity → supplied.state ≡ d.state → later.index ≡ put_indices d.index (indices_of update)
-    → OnErr result ((later ≡ supplied) × (after ≡ before)) → IsInstallResult d.state update t published capacity result
-    → IfErr result (λ r. LeavesSupplied update d later before after r.0)
-left_supplied {H} update t published capacity d supplied later before after (Ok entry) may same put is why = tt
-left_supplied {H} update t published capacity d supplied later before after (Err r) may same put is why =
-    record {
-      state = ap (λ (v : View H (List Supplied)). v.state) is.0 ∙ same;
-      publisher = is.1;
-      indices = subst (λ (xs : List Supplied). LeavesIndices (indices_of update) d.index xs r.0) (sym put)
-          (left_all d.state (base_of update) t published capacity (indices_of update) d.index r.0 may why.0);
-    }
 
 -- what follows from a property of a result's value holds of the value
 pub if_ok-map : {T E : Type 0} (r : Result T E) (P Q : T → Type 0) → ((x : T) → P x → Q x) → IfOk r P → IfOk r Q

@@ -63,7 +63,7 @@ pub use Rattle.coniks_directory.specs.Lookups.{IsAcceptedAt, IsFound}
 pub use Rattle.coniks_directory.specs.Runs.{AreAccepted, AreAcceptedFrom, Batch, Run, defined, epochs_from, shown_by}
 pub use Rattle.coniks_directory.specs.State.{HoldsEpoch, IsEpochAt, IsInstalled, IsStored, Mirrors, ShowsRegistry, State, View, Whole, history_of, last_count, registered_of, shown_of, state_of}
 unfoldable pub use Rattle.coniks_directory.specs.State.{registry_at}
-pub use Rattle.coniks_directory.specs.Updates.{RotatesTo, Grows, IsUpdate, IsUpdateOf, MayInstall, records_after, registry_after, shown_after, shown_with}
+pub use Rattle.coniks_directory.specs.Updates.{RotatesTo, Grows, IsUpdate, IsUpdateOf, ComesNext, records_after, registry_after, shown_after, shown_with}
 pub use Rattle.coniks_directory.specs.declared.batch.Op.{Op}
 pub use Rattle.coniks_directory.specs.declared.epochs.Epoch.{Epoch}
 pub use Rattle.coniks_directory.specs.declared.growth.Growth.{Growth}

@@ -16,7 +16,6 @@ use Rattle.coniks_directory.specs.State.{View, history_of}
 use Rattle.coniks_directory.specs.Supplied.{AgreeOn}
 use Rattle.coniks_directory.specs.SuppliedBatches.{index_in, indexed}
 use Rattle.coniks_directory.specs.declared.batch.Op.{Op}
-use Rattle.coniks_directory.specs.declared.supplied_batch.SuppliedBatch.{SuppliedBatch}
 
 -- the epochs of a directory, each with its registry
 abbrev pub history : {H X : Type 0} → View H X → List Shown
@@ -69,10 +68,6 @@ NextBody {H} {X} digest index d shown = NextBodyBy digest d (index d.index) show
 -- the indices that operations are checked by: those that the source gives registered names, and those that come with the operations
 abbrev pub index_with : {H X : Type 0} → (X → Octets → Octets) → View H X → List Op → List Index → Octets → Octets
 index_with {H} {X} index d ops indices = index_in (index d.index) (registry d) (indexed ops indices)
-
--- the same of a batch
-abbrev pub batch_index : {H X : Type 0} → (X → Octets → Octets) → View H X → SuppliedBatch → Octets → Octets
-batch_index {H} {X} index d batch = index_with index d batch.ops.now batch.indices.now
 
 -- the hash and the source of indices are the same
 pub record IsAlike {H X : Type 0} (d e : View H X) : Type 0 where

@@ -5,7 +5,7 @@ use Rattle.coniks_proof.specs.Octets.{Octets}
 use Rattle.coniks_proof.specs.Registry.{root_of}
 use Rattle.coniks_tree.specs.Parts.{node_count}
 use Rattle.coniks_tree.specs.Table.{table}
-use Rattle.coniks_chain.specs.Chain.{Continues, before_at, link_before}
+use Rattle.coniks_chain.specs.Chain.{Continues, before_at}
 use Rattle.coniks_chain.specs.Entries.{body_bytes}
 use Rattle.coniks_chain.specs.declared.entry.Body.{Body}
 use Rattle.coniks_chain.specs.declared.entry.Entry.{Entry}
@@ -21,10 +21,9 @@ use Rattle.coniks_directory.specs.declared.update.Prepared.{Prepared}
 abbrev pub IsNext : (Octets → Octets) → (Octets → Octets) → State → Prepared → ℕ → Body → Type 0
 IsNext hash index_of s p t body = body ≡ body_of hash index_of s.policy (before_at hash s.before s.chain (length s.chain)) (shown_after s p t)
 
--- if the state is a directory's, the update one of it and the link that of its last entry, then the body is the next one
-abbrev pub IsSigned : (Octets → Octets) → State → Prepared → ℕ → Octets → Body → Type 0
-IsSigned hash s p t previous body = (index_of : Octets → Octets) → Whole hash index_of s → IsUpdate hash index_of s p
-    → previous ≡ link_before (before_at hash s.before s.chain (length s.chain)) → IsNext hash index_of s p t body
+-- if the state is a directory's and the update one of it, then the body is the next one
+abbrev pub IsSigned : (Octets → Octets) → State → Prepared → ℕ → Body → Type 0
+IsSigned hash s p t body = (index_of : Octets → Octets) → Whole hash index_of s → IsUpdate hash index_of s p → IsNext hash index_of s p t body
 
 -- there is room for the update's nodes and records, and for one more epoch and entry
 pub record HasRoom (held : DirectoryState) (p : Prepared) : Type 0 where

@@ -14,7 +14,7 @@ use Rattle.coniks_directory.specs.Nodes.{epoch_nodes}
 use Rattle.coniks_directory.specs.State.{State, View}
 use Rattle.coniks_directory.specs.Supplied.{AgreeOn, Supplied, supplied_index}
 use Rattle.coniks_directory.specs.SuppliedBatches.{IsSuppliedUpdate, LeavesIndices, indices_of, put_indices}
-use Rattle.coniks_directory.specs.Updates.{Grows, IsCommitFault, IsRefused, LeavesSigner, MayInstall, base_of, nodes_added, registry_after, shown_after, shown_with}
+use Rattle.coniks_directory.specs.Updates.{Grows, IsCommitFault, IsNotNext, IsRefused, ComesNext, MayInstall, base_of, nodes_added, registry_after, shown_after, shown_with}
 use Rattle.coniks_directory.specs.declared.batch.Op.{Op}
 use Rattle.coniks_directory.specs.declared.update.CommitFault.{CommitFault}
 use Rattle.coniks_directory.specs.declared.update.InstallFault.{InstallFault}
@@ -54,6 +54,12 @@ pub record AddsBatch {H X : Type 0} (digest : H → Octets → Octets) (index : 
   pub few : nonce ≡ None → length later.state.nodes ≤ length d.state.nodes + most_nodes (history d) (length ops)
   pub none : nonce ≡ None → length ops ≡ 0 → length later.state.nodes ≡ length d.state.nodes + most_nodes (history d) 0
 
+-- the entry is that of the update: by a function that the update was prepared by, its body is the next one
+pub record IsNextEntry {H : Type 0} (digest : H → Octets → Octets) (d : View H (List Supplied)) (update : Prepared) (entry : Entry) : Type 0 where
+  pub index : Octets → Octets
+  pub supplied : IsSuppliedUpdate (digest d.hash) (supplied_index d.index) d.state update index
+  pub body : entry.body ≡ NextBodyBy digest d index (shown_after d.state update entry.body.t)
+
 -- the epoch is that of the update by each function that the update was prepared by; its names have their indices from then on
 pub record AddsSupplied {H : Type 0} (digest : H → Octets → Octets) (d later : View H (List Supplied))
     (update : Prepared) (t : ℕ) (entry : Entry) : Type 0 where
@@ -80,6 +86,11 @@ abbrev pub IsInstallResult : State → Prepared → ℕ → ℕ → ℕ → Resu
 IsInstallResult s update t published capacity (Ok entry) = MayInstall s (base_of update) t published capacity
 IsInstallResult s update t published capacity (Err r) = IsRefused s (base_of update) t published capacity r.0 × (r.1 ≡ update)
 
+-- the update comes next, or the first error that applies, with the update
+abbrev pub IsNextResult : State → Prepared → ℕ → Result (Unit {0}) (InstallFault × Prepared) → Type 0
+IsNextResult s update t (Ok _) = ComesNext s (base_of update) t
+IsNextResult s update t (Err r) = IsNotNext s (base_of update) t r.0 × (r.1 ≡ update)
+
 -- the batch is accepted, and its update may be installed
 pub record MayCommit {H X : Type 0} (index : X → Octets → Octets) (d : View H X)
     (ops : List Op) (depth workers t published capacity : ℕ) : Type 0 where
@@ -102,6 +113,12 @@ pub record Keeps {H X S : Type 0} (digest : H → Octets → Octets) (verdict_of
   pub heads : after.heads ≡ heads digest later
   pub table : after.table ≡ before.table
 
+-- the directory is a later one, and its good chain stays good if this entry is signed
+pub record Follows {H X : Type 0} (digest : H → Octets → Octets) (d later : View H X) (entry : Entry) : Type 0 where
+  pub grows : Grows d.state later.state
+  pub good : (verdict : Octets → Octets → Bool) → verdict (body_bytes entry.body) entry.signature.0 ≡ true
+      → HasGoodChain digest verdict d → HasGoodChain digest verdict later
+
 -- the hash is the same, and each registered name keeps its index
 pub record KeepsIndices {H : Type 0} (d later : View H (List Supplied)) : Type 0 where
   pub hash : later.hash ≡ d.hash
@@ -117,16 +134,7 @@ update_body {H} {X} digest index d update t = NextBody digest index d (shown_aft
 abbrev pub batch_body : {H X : Type 0} → (H → Octets → Octets) → (X → Octets → Octets) → View H X → Option Nonce → List Op → ℕ → Body
 batch_body {H} {X} digest index d nonce ops t = NextBody digest index d (shown_with d.state (nonce_bytes nonce) (operations ops) t)
 
--- state and publisher are as they were, and the indices are those that the error leaves
-pub record LeavesSupplied {H : Type 0} (update : Prepared) (d later : View H (List Supplied))
-    (before after : BoardEnd) (fault : InstallFault) : Type 0 where
+-- the state is as it was, and the indices are those that the error leaves
+pub record LeavesSupplied {H : Type 0} (update : Prepared) (d later : View H (List Supplied)) (fault : InstallFault) : Type 0 where
   pub state : later.state ≡ d.state
-  pub publisher : after ≡ before
   pub indices : LeavesIndices (indices_of update) d.index later.index fault
-
--- the signer was asked for the body by each function that the update was prepared by, or it wasn't asked
-abbrev pub SuppliedLeavesSigner : {H S : Type 0} → (H → Octets → Octets) → (S → Octets → Option Signature → S → Type 0)
-    → View H (List Supplied) → Prepared → ℕ → S → S → InstallFault → Type 0
-SuppliedLeavesSigner {H} {S} digest signs d update t old new fault = (index_of : Octets → Octets)
-    → IsSuppliedUpdate (digest d.hash) (supplied_index d.index) d.state update index_of
-    → LeavesSigner signs (NextBodyBy digest d index_of (shown_after d.state update t)) old new fault

@@ -11,7 +11,7 @@ use Rattle.coniks_directory.specs.History.{Shown, latest_registry, nonce_after, 
 use Rattle.coniks_directory.specs.Restored.{Restores, restored_epoch, said_before}
 use Rattle.coniks_directory.specs.State.{State, history_of, opened as nothing}
 use Rattle.coniks_directory.specs.Supplied.{AgreeOn}
-use Rattle.coniks_directory.specs.Updates.{RotatesTo, Grows, IsUpdate, MayInstall, base_of, registry_after, shown_after, shown_with}
+use Rattle.coniks_directory.specs.Updates.{RotatesTo, Grows, IsUpdate, ComesNext, base_of, registry_after, shown_after, shown_with}
 use Rattle.coniks_directory.specs.declared.update.Prepared.{Prepared}
 
 -- a batch, its epoch, and its nonce, if it has one
@@ -91,17 +91,17 @@ pub data Run (hash : Octets → Octets) : (Octets → Octets) → Start → List
       → Run hash index_of start batches s → AgreeOn index_of also (latest_registry (history_of s))
       → Run hash also start batches s
   committed : (index_of : Octets → Octets) (start : Start) (batches : List Batch) (b : Batch)
-      (s later : State) (depth workers published capacity : ℕ) → Run hash index_of start batches s
+      (s later : State) (depth workers : ℕ) → Run hash index_of start batches s
       → IsAccepted index_of (latest_registry (history_of s)) b.ops depth workers
-      → MayInstall s (length s.epochs) b.t published capacity
+      → ComesNext s (length s.epochs) b.t
       → history_of later ≡ history_of s ++ shown_with s b.new_nonce b.ops b.t ∷ [] → Grows s later
       → Run hash index_of start (batches ++ b ∷ []) later
   -- the update was prepared earlier, with any calls in between, and the names that it leaves have the indices that they had then
   installed : (index_of then : Octets → Octets) (start : Start) (batches : List Batch)
-      (b : Batch) (earlier s later : State) (update : Prepared) (depth workers published capacity : ℕ)
+      (b : Batch) (earlier s later : State) (update : Prepared) (depth workers : ℕ)
       → Run hash index_of start batches s
       → IsPreparedOf hash then earlier b.new_nonce b.ops depth workers update
       → AgreeOn then index_of (registry_after earlier update) → Grows earlier s
-      → MayInstall s (base_of update) b.t published capacity
+      → ComesNext s (base_of update) b.t
       → history_of later ≡ history_of s ++ shown_after s update b.t ∷ [] → Grows s later
       → Run hash index_of start (batches ++ b ∷ []) later

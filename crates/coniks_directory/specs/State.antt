@@ -9,7 +9,7 @@ use Rattle.coniks_proof.specs.Registry.{Registered, Registry, overlaid, entries_
 use Rattle.coniks_tree.specs.Table.{Numbered, Shows, entry_of_record, registered_at, registered_by, Table, table}
 use Rattle.coniks_tree.specs.declared.table.Node.{Node}
 use Rattle.coniks_tree.specs.declared.table.Record.{Record}
-use Rattle.coniks_chain.specs.Chain.{epoch_before}
+use Rattle.coniks_chain.specs.Chain.{before_at, epoch_before, link_before}
 use Rattle.coniks_chain.specs.declared.auditor.AuditorState.{AuditorState}
 use Rattle.coniks_chain.specs.declared.entry.Entry.{Entry}
 use Rattle.coniks_directory.specs.History.{Shown, AreRising, AreUnder, numbers_of, root_at, shown_at}
@@ -104,6 +104,15 @@ pub record Whole (hash index_of : Octets → Octets) (s : State) : Type 0 where
   pub rising : AreRising (epoch_before s.before) (numbers_of (history_of s))
   pub under : AreUnder 1 s.nonce (history_of s)
   pub chain : IsChainOf hash index_of s.policy s.before (history_of s) s.chain
+
+-- the stored link is the one that the next entry contains: that of the last entry, or zeros if there is none
+abbrev pub IsLinked : (Octets → Octets) → DirectoryState → Type 0
+IsLinked hash held = held.link.0 ≡ link_before (before_at hash held.before held.chain.items (length held.chain.items))
+
+-- what is true of a directory: of the state that contracts see, and of the stored link
+pub record IsDirectory (hash index_of : Octets → Octets) (held : DirectoryState) : Type 0 where
+  pub whole : Whole hash index_of (state_of held)
+  pub linked : IsLinked hash held
 
 -- the epoch of exactly this number, with the entry of that number
 pub record IsEpochAt (hash index_of : Octets → Octets) (s : State) (t : ℕ) (e : Epoch) (entry : Entry) : Type 0 where

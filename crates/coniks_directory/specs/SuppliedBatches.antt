@@ -18,7 +18,7 @@ use Rattle.coniks_directory.specs.Updates.{IsUpdateOf, base_of}
 use Rattle.coniks_directory.specs.declared.batch.BatchFault.TheVariants.{Workers, Depth, BatchTooLong, At, OutOfMemory}
 use Rattle.coniks_directory.specs.declared.batch.Op.{Op}
 use Rattle.coniks_directory.specs.declared.supplied_batch.SuppliedBatchFault.{SuppliedBatchFault}
-use Rattle.coniks_directory.specs.declared.supplied_batch.SuppliedBindings.{SuppliedBindings}
+use Rattle.coniks_directory.specs.declared.supplied_batch.OwnedBindings.{OwnedBindings}
 use Rattle.coniks_directory.specs.declared.supplied_batch.SuppliedBatchFault.TheVariants.{Batch, OtherIndex}
 use Rattle.coniks_directory.specs.declared.update.InstallFault.{InstallFault}
 use Rattle.coniks_directory.specs.declared.update.InstallFault.TheVariants as install
@@ -52,8 +52,8 @@ abbrev pub index_in : (Octets → Octets) → Registry → List Indexed → Octe
 index_in index_of registry batch name = if has_name registry name then index_of name else given_index (named_in batch) index_of name
 
 -- the indices that bindings are checked by after others: a bound name keeps its index, and another name has the first that comes with it
-abbrev pub binding_index : (Octets → Octets) → List Registered → SuppliedBindings → Octets → Octets
-binding_index index_of bound batch = index_in index_of bound (indexed batch.bindings.now batch.indices.now)
+abbrev pub binding_index : (Octets → Octets) → List Registered → OwnedBindings → Octets → Octets
+binding_index index_of bound batch = index_in index_of bound (indexed batch.bindings.items batch.indices.items)
 
 -- of the names of operations, those that aren't registered, each with the index that comes first
 pub record IsFresh (registry : Registry) (fresh named : List Supplied) : Type 0 where
@@ -167,14 +167,14 @@ indices_of update = indices_in update.records.items
 abbrev pub indices_by : (Octets → Octets) → List Operation → List Supplied
 indices_by index_of ops = map (λ (op : Operation). (op.name, index_of op.name)) ops
 
--- what a refused install leaves of a source: the indices that it had, with none of the update's, with those of its first names if an
--- allocation failed, or with all of them if the signer refused
+-- what a refused install leaves of a source: the indices that it had, with none of the update's, or with those of its first names if an
+-- allocation failed
 abbrev pub LeavesIndices : List Supplied → List Supplied → List Supplied → InstallFault → Type 0
 LeavesIndices given old new (install.Stale latest) = new ≡ old
 LeavesIndices given old new (install.EpochNotLater latest) = new ≡ old
 LeavesIndices given old new install.BoardFull = new ≡ old
 LeavesIndices given old new install.OutOfMemory = (n : ℕ) × (new ≡ put_indices old (take n given))
-LeavesIndices given old new install.SignerRefused = new ≡ put_indices old given
+LeavesIndices given old new install.SignerRefused = new ≡ old
 
 -- each of the names has the index that the function gives it
 abbrev pub AreOf : (Octets → Octets) → List Supplied → Type 0

@@ -86,11 +86,23 @@ pub record IsUpdateOf (hash index_of : Octets → Octets) (s : State) (p : Prepa
   pub grows : Grows earlier s
   pub update : IsUpdate hash index_of earlier p
 
+-- an update that was prepared when there were `base` epochs comes next under the number t
+pub record ComesNext (s : State) (base t : ℕ) : Type 0 where
+  pub fresh : base ≡ length s.epochs
+  pub later : latest_epoch (history_of s) < t
+
+-- the error of an update that needs neither a board nor a signer: the first that applies, in their order
+abbrev pub IsNotNext : State → ℕ → ℕ → InstallFault → Type 0
+IsNotNext s base t (Stale latest) = (latest ≡ latest_epoch (history_of s)) × (base ≢ length s.epochs)
+IsNotNext s base t (EpochNotLater latest) = (latest ≡ latest_epoch (history_of s)) × (base ≡ length s.epochs) × (t ≤ latest)
+IsNotNext s base t BoardFull = ⊥
+IsNotNext s base t OutOfMemory = ComesNext s base t
+IsNotNext s base t SignerRefused = ⊥
+
 -- an update that was prepared when there were `base` epochs may be installed
 -- under the number t, with this number of heads on a board of this capacity
 pub record MayInstall (s : State) (base t published capacity : ℕ) : Type 0 where
-  pub fresh : base ≡ length s.epochs
-  pub later : latest_epoch (history_of s) < t
+  pub next : ComesNext s base t
   pub room : published ≢ capacity
 
 -- the error of a refused update: the first that applies, in their order

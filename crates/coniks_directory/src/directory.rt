@@ -5,7 +5,7 @@ ghost use Rattle.coniks_proof.specs.Octets.{Octets};
 ghost use Rattle.coniks_proof.specs.Registry.{has_name};
 ghost use Rattle.coniks_directory.specs.Batches.{IsAccepted, IsBatchFault, operations};
 ghost use Rattle.coniks_directory.specs.Chain.{IsChainOf};
-ghost use Rattle.coniks_directory.specs.Directories.{IsAlike, NextBodyBy, entry, heads, history, registry, root_of_epoch};
+ghost use Rattle.coniks_directory.specs.Directories.{IsAlike, NextBodyBy, entry, history, registry, root_of_epoch};
 ghost use Rattle.coniks_directory.specs.History.{AllHaveOwnIndices, AreRising, AreUnder, nonce_bytes, numbers_of};
 ghost use Rattle.coniks_directory.specs.Lookups.{IsAcceptedAt, IsAcceptedUnder, IsFound, IsMissed};
 ghost use Rattle.coniks_directory.specs.Updates.{HasRefused, IsUpdate, IsUpdateOf};
@@ -16,14 +16,14 @@ mod supplying;
 use crate::batch::{BatchFault, Op, check_length, copies_of, parallelism_of};
 use crate::bindings::{BindingsFault, IndexedBinding, bindings_of};
 use crate::conflicts::{holder_at, is_of};
-use crate::install::{enter, head_of, last_link, make_body, may_install, put_head, signed};
+use crate::install::{enter, head_of, make_body, may_install, put_head, signed};
 use crate::lengths::is_length;
 use crate::lookup::{LookupFault, SignedProof};
 use crate::preparing::{Build, Origin, update_on};
 use crate::source::IndexSource;
 use crate::state::DirectoryState;
 use crate::update::{CommitFault, InstallFault, Prepared, in_install, in_prepare};
-use coniks_chain::{Body, Entry, Sign};
+use coniks_chain::{Body, Entry, Sign, link};
 use coniks_proof::{Digest, Hash32, Index, MAX_NAME, Nonce, Proof};
 use coniks_shared::{Board, Publisher};
 use coniks_work::{Gate, Parallelism};
@@ -46,13 +46,13 @@ pub struct Directory<H: Hash32, X: IndexSource> {
 }
 
 impl<H: Hash32, X: IndexSource> Model for Directory<H, X> {
-    ghost use Rattle.coniks_directory.specs.State.{View, Whole, state_of};
+    ghost use Rattle.coniks_directory.specs.State.{IsDirectory, View, state_of};
 
     ghost Value = { View H X };
 
     ghost view = { λ d. record { hash = d.h; index = d.source; state = state_of d.held } };
 
-    ghost invariant = { λ d. Whole (H.digest_of d.h) (X.index_of d.source) (state_of d.held) };
+    ghost invariant = { λ d. IsDirectory (H.digest_of d.h) (X.index_of d.source) d.held };
 }
 
 impl<H: Hash32, X: IndexSource> Directory<H, X> {
@@ -102,16 +102,11 @@ impl<H: Hash32, X: IndexSource> Directory<H, X> {
     }
 
     /// Returns the link of the latest entry, or 32 zero bytes before the first.
-    ///
-    /// The publisher has published exactly the heads of the directory's chain.
-    pub fn latest_link(&self, publisher: &Publisher) -> Digest
-        requires { publisher.now.heads ≡ heads H.digest_of self.now }
+    pub fn latest_link(&self) -> Digest
         ensures link { result.0 ≡ link_before (before_at (H.digest_of self.now.hash) self.now.state.before self.now.state.chain (length self.now.state.chain)) }
         ensures of_last { (earlier : List Entry) (entry : Entry) → self.now.state.chain ≡ earlier ++ entry ∷ [] → result.0 ≡ H.digest_of self.now.hash (link_preimage entry) }
     {
-        // Read for the contract alone.
-        let _ = &self.held;
-        last_link(publisher)
+        self.held.link
     }
 
     /// Returns the root of an epoch, if one was installed under exactly this number.
@@ -251,16 +246,14 @@ impl<H: Hash32, X: IndexSource> Directory<H, X> {
 
     /// Returns the body that an install of the update under the number `t` asks the signer to sign.
     ///
-    /// The update was prepared from the directory as it is. The publisher has published exactly the heads of the
-    /// directory's chain.
-    pub fn next_body(&self, update: &Prepared, t: u64, publisher: &Publisher) -> Body
-        requires update { (index : Octets → Octets) × IsUpdate (H.digest_of self.now.hash) index self.now.state update.now }
-        requires published { publisher.now.heads ≡ heads H.digest_of self.now }
+    /// The update was prepared from the directory as it is.
+    pub fn next_body(&self, update: &Prepared, t: u64) -> Body
+        requires { (index : Octets → Octets) × IsUpdate (H.digest_of self.now.hash) index self.now.state update.now }
         ensures { (index : Octets → Octets) → AgreeOn (X.index_of self.now.index) index (registry self.now)
             → IsUpdate (H.digest_of self.now.hash) index self.now.state update.now
             → result ≡ NextBodyBy H.digest_of self.now index (shown_after self.now.state update.now t) }
     {
-        make_body(&self.held, &self.h, update, t, last_link(publisher))
+        make_body(&self.held, &self.h, update, t)
     }
 }
 
@@ -317,11 +310,11 @@ impl<H: Hash32, X: IndexSource> Directory<H, X> {
         if let Err(fault) = may_install(&self.held, update.base, t, published, capacity) {
             return Err((fault, update));
         }
-        let previous = last_link(publisher);
-        match signed(&mut self.held, &self.h, &update, t, previous, signer) {
+        match signed(&mut self.held, &self.h, &update, t, signer) {
             Ok(entry) => {
-                enter(&mut self.held, &self.h, update, t, entry);
-                put_head(publisher, board, head_of(&self.h, &entry));
+                let link = link(&self.h, &entry);
+                enter(&mut self.held, &self.h, update, t, entry, link);
+                put_head(publisher, board, head_of(&entry, link));
                 Ok(entry)
             }
             Err(fault) => Err((fault, update)),
@@ -454,7 +447,7 @@ impl<H: Hash32 + Sync, X: IndexSource> Directory<H, X> {
     ///
     /// - `Batch` with the error of `prepare`.
     /// - `Install` with the error of `install`.
-    #[tactic(auto, using(crate::proofs::FreshLemmas::growth))]
+    #[tactic(auto, using(crate::proofs::CommitLemmas::commits))]
     pub fn commit<S: Sign, G: Gate + Sync, R: Threads + Sync>(
         &mut self,
         rt: &R,
@@ -483,74 +476,17 @@ impl<H: Hash32 + Sync, X: IndexSource> Directory<H, X> {
         ensures unsigned { IfErr result (λ fault. HasRefused S.made_of S.refused_of S.last_of signer.old signer.new (commit_refusals fault)) }
         ensures unasked { IfErr result (CommitLeavesSigner S.signs (batch_body H.digest_of X.index_of self.old None ops.now t) signer.old signer.new) }
     {
-        match parallelism_of(depth, workers) {
-            Ok(parallelism) => self.commit_with(
-                rt,
-                None,
-                ops,
-                parallelism,
-                gate,
-                t,
-                signer,
-                publisher,
-                board,
-            ),
-            Err(fault) => Err(CommitFault::Batch(fault)),
-        }
-    }
-
-    /// Prepares a batch and installs its update, as `commit` does, with an optional new nonce.
-    ///
-    /// If there is a nonce, the update is that of `prepare_with`, else that of `prepare`. The call copies the names and the
-    /// keys; `commit_owned` takes them.
-    ///
-    /// # Errors
-    ///
-    /// The errors of `commit`, in the same cases.
-    #[tactic(auto, using(crate::proofs::CommitLemmas::commits))]
-    pub fn commit_with<S: Sign, G: Gate + Sync, R: Threads + Sync>(
-        &mut self,
-        rt: &R,
-        nonce: Option<Nonce>,
-        ops: &[Op],
-        parallelism: Parallelism,
-        gate: &G,
-        t: u64,
-        signer: &mut S,
-        publisher: &mut Publisher,
-        board: &Board,
-    ) -> Result<Entry, CommitFault>
-        requires { IsReady H.digest_of S.made_of S.refused_of self.old signer.old publisher.old board.now }
-
-        // An entry.
-        ensures installed { IfOk result (AddsBatch H.digest_of X.index_of self.old self.new nonce ops.now t) }
-        ensures signed { IfOk result (HasSigned S.made_of S.refused_of S.last_of S.signs S.verdict_of signer.old signer.new) }
-
-        // An entry or an error.
-        ensures outcome { IsCommitResult X.index_of self.old ops.now parallelism.depth parallelism.workers t (length publisher.old.heads) board.now.capacity result }
-        ensures same { IsAlike self.new self.old }
-        ensures kept { Keeps H.digest_of S.verdict_of self.old self.new signer.old signer.new publisher.old publisher.new }
-
-        // An error.
-        ensures unchanged { OnErr result ((self.new ≡ self.old) × (publisher.new ≡ publisher.old)) }
-        ensures unsigned { IfErr result (λ fault. HasRefused S.made_of S.refused_of S.last_of signer.old signer.new (commit_refusals fault)) }
-        ensures unasked { IfErr result (CommitLeavesSigner S.signs (batch_body H.digest_of X.index_of self.old nonce ops.now t) signer.old signer.new) }
-    {
-        let build = Build {
-            rt,
-            parallelism,
-            gate,
-        };
-        let update = in_prepare(self.prepared_from(&build, nonce, ops))?;
+        let update = in_prepare(self.prepare(rt, ops, depth, workers, gate))?;
         match self.install(update, t, signer, publisher, board) {
             Ok(entry) => Ok(entry),
             Err((fault, _)) => Err(in_install(fault)),
         }
     }
 
-    /// Prepares a batch and installs its update, as `commit_with` does, and copies no name and no key.
+    /// Prepares a batch and installs its update, as `commit` does, with an optional new nonce, and copies no name and no key.
     ///
-    /// The records of the update take the names and the keys of the operations.
+    /// If there is a nonce, the update is that of `prepare_with`, else that of `prepare`. Its records take the names and the
+    /// keys of the operations.
     ///
     /// # Errors
     ///

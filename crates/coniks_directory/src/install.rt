@@ -1,25 +1,41 @@
 //! The steps of an install.
 
-ghost use Rattle.std.specs.Prelude.{◌≡◌, ◌≢◌, ◌<◌, ◌+◌, ◌-◌, ◌^◌, ◌++◌, ◌∷◌, [], List, ℕ, Option, None, IfErr, IfOk, OnOk, length, vec_len, vec_capacity};
+ghost use Rattle.std.specs.Prelude.{◌≡◌, ◌≢◌, ◌<◌, ◌+◌, ◌-◌, ◌^◌, ◌++◌, ◌∷◌, [], List, ℕ, IfErr, IfOk, OnOk, length, vec_len, vec_capacity};
 ghost use Rattle.coniks_proof.specs.Octets.{Octets};
-ghost use Rattle.coniks_chain.specs.Chain.{before_at, link_before};
-ghost use Rattle.coniks_chain.specs.declared.auditor.AuditorState.{AuditorState};
+ghost use Rattle.coniks_chain.specs.Entries.{link_preimage};
 ghost use Rattle.coniks_chain.specs.declared.entry.Body.{Body};
 ghost use Rattle.coniks_shared.specs.Boards.{board_end};
 ghost use Rattle.coniks_tree.specs.Parts.{Fits, Placed};
-ghost use Rattle.coniks_directory.specs.Chain.{head_at, heads_of};
+ghost use Rattle.coniks_directory.specs.Chain.{head_at};
 ghost use Rattle.coniks_directory.specs.Installed.{HasRoom, IsAttached, IsEntered, IsSigned};
 ghost use Rattle.coniks_directory.specs.Installs.{HasSigned};
-ghost use Rattle.coniks_directory.specs.State.{State, state_of};
-ghost use Rattle.coniks_directory.specs.Updates.{HasRefused, IsRefused, LeavesSigner, MayInstall, nodes_added, refusals};
+ghost use Rattle.coniks_directory.specs.State.{IsLinked, State, state_of};
+ghost use Rattle.coniks_directory.specs.Updates.{HasRefused, IsNotNext, IsRefused, LeavesSigner, ComesNext, MayInstall, nodes_added, refusals};
 
 use crate::epochs::Epoch;
 use crate::state::DirectoryState;
 use crate::update::{InstallFault, Prepared};
-use coniks_chain::{Body, Entry, Sign, link};
+use coniks_chain::{Body, Entry, Sign};
 use coniks_proof::{Digest, Hash32, Head};
 use coniks_shared::{Board, Publisher};
 use coniks_tree::OutOfMemory;
+
+/// Checks that an update comes next under a number. There were `base` epochs when it was prepared.
+pub(crate) fn check_next(held: &DirectoryState, base: usize, t: u64) -> Result<(), InstallFault>
+    ensures ok { OnOk result (ComesNext (state_of held.now) base t) }
+    ensures refused { IfErr result (IsNotNext (state_of held.now) base t) }
+    ensures uninstalled { IfErr result (λ fault. (published capacity : ℕ) → IsRefused (state_of held.now) base t published capacity fault) }
+    ensures unsigned { IfErr result (λ fault. refusals fault ≡ 0) }
+{
+    let latest = held.latest();
+    if base != held.count() {
+        return Err(InstallFault::Stale { latest });
+    }
+    if t <= latest {
+        return Err(InstallFault::EpochNotLater { latest });
+    }
+    Ok(())
+}
 
 /// Checks that an update can be installed under a number.
 ///
@@ -35,12 +51,8 @@ pub(crate) fn may_install(
     ensures refused { IfErr result (IsRefused (state_of held.now) base t published capacity) }
     ensures unsigned { IfErr result (λ fault. refusals fault ≡ 0) }
 {
-    let latest = held.latest();
-    if base != held.count() {
-        return Err(InstallFault::Stale { latest });
-    }
-    if t <= latest {
-        return Err(InstallFault::EpochNotLater { latest });
+    if let Err(fault) = check_next(held, base, t) {
+        return Err(fault);
     }
     if published == capacity {
         return Err(InstallFault::BoardFull);
@@ -48,22 +60,11 @@ pub(crate) fn may_install(
     Ok(())
 }
 
-/// Returns the link of the last entry, which the last published head contains, or 32 zero bytes if there is none.
-#[tactic(auto, using(crate::proofs::HeadLemmas::last_links))]
-pub(crate) fn last_link(publisher: &Publisher) -> Digest
-    ensures { (hash : Octets → Octets) (before : Option AuditorState) (chain : List Entry) → publisher.now.heads ≡ heads_of hash chain
-        → (chain ≡ [] → before ≡ None) → result.0 ≡ link_before (before_at hash before chain (length chain)) }
-{
-    match publisher.last() {
-        Some(head) => head.link,
-        None => Digest([0; 32]),
-    }
-}
-
 /// Reserves room for an update's nodes and records, and for one more epoch and entry.
 pub(crate) fn make_room(held: &mut DirectoryState, update: &Prepared) -> Result<(), OutOfMemory>
     requires { Fits (length held.old.tree.nodes) 0 update.now.part }
     ensures same { state_of held.new ≡ state_of held.old }
+    ensures link { held.new.link ≡ held.old.link }
     ensures room { OnOk result (HasRoom held.new update.now) }
 {
     held.tree.reserve(&update.part, update.records.len())?;
@@ -72,23 +73,18 @@ pub(crate) fn make_room(held: &mut DirectoryState, update: &Prepared) -> Result<
     Ok(())
 }
 
-/// Returns the body of the epoch that an update makes under a number, if the entry before it has this link.
-pub(crate) fn make_body<H: Hash32>(
-    held: &DirectoryState,
-    h: &H,
-    update: &Prepared,
-    t: u64,
-    previous: Digest,
-) -> Body
-    requires { Fits (length held.now.tree.nodes) 0 update.now.part }
-    ensures { IsSigned (H.digest_of h.now) (state_of held.now) update.now t previous.0 result }
+/// Returns the body of the epoch that an update makes under a number.
+pub(crate) fn make_body<H: Hash32>(held: &DirectoryState, h: &H, update: &Prepared, t: u64) -> Body
+    requires fits { Fits (length held.now.tree.nodes) 0 update.now.part }
+    requires linked { IsLinked (H.digest_of h.now) held.now }
+    ensures { IsSigned (H.digest_of h.now) (state_of held.now) update.now t result }
 {
     Body {
         version: update.version,
         t,
         t_prev: held.latest(),
         root: held.tree.part_hash(h, &update.nonce, &update.part),
-        previous,
+        previous: held.link,
         nonce: update.nonce,
         policy: held.policy,
     }
@@ -96,24 +92,25 @@ pub(crate) fn make_body<H: Hash32>(
 
 /// Reserves room for an update, and returns the signed entry of the epoch that it makes under a number.
 ///
-/// The entry before it has this link. The signer is not asked if there is no room.
+/// The signer is not asked if there is no room.
 pub(crate) fn signed<H: Hash32, S: Sign>(
     held: &mut DirectoryState,
     h: &H,
     update: &Prepared,
     t: u64,
-    previous: Digest,
     signer: &mut S,
 ) -> Result<Entry, InstallFault>
     requires fits { Fits (length held.old.tree.nodes) 0 update.now.part }
+    requires linked { IsLinked (H.digest_of h.now) held.old }
     requires made_below { S.made_of signer.old < 2 ^ 64 - 1 }
     requires refused_below { S.refused_of signer.old < 2 ^ 64 - 1 }
     ensures same { state_of held.new ≡ state_of held.old }
+    ensures link { held.new.link ≡ held.old.link }
     ensures room { OnOk result (HasRoom held.new update.now) }
-    ensures body { IfOk result (λ entry. IsSigned (H.digest_of h.now) (state_of held.old) update.now t previous.0 entry.body) }
+    ensures body { IfOk result (λ entry. IsSigned (H.digest_of h.now) (state_of held.old) update.now t entry.body) }
     ensures signed { IfOk result (HasSigned S.made_of S.refused_of S.last_of S.signs S.verdict_of signer.old signer.new) }
     ensures unasked { IfErr result
-        (λ fault. (wanted : Body) → ((body : Body) → IsSigned (H.digest_of h.now) (state_of held.old) update.now t previous.0 body → body ≡ wanted)
+        (λ fault. (wanted : Body) → ((body : Body) → IsSigned (H.digest_of h.now) (state_of held.old) update.now t body → body ≡ wanted)
         → LeavesSigner S.signs wanted signer.old signer.new fault) }
     ensures verdicts_kept { (bytes signature : Octets) → S.verdict_of signer.new bytes signature ≡ S.verdict_of signer.old bytes signature }
     ensures refused { IfErr result
@@ -123,7 +120,7 @@ pub(crate) fn signed<H: Hash32, S: Sign>(
     if make_room(held, update).is_err() {
         return Err(InstallFault::OutOfMemory);
     }
-    let body = make_body(held, h, update, t, previous);
+    let body = make_body(held, h, update, t);
     body.known();
     match signer.sign(&body.bytes()) {
         Some(signature) => Ok(Entry { body, signature }),
@@ -131,13 +128,13 @@ pub(crate) fn signed<H: Hash32, S: Sign>(
     }
 }
 
-/// Returns the head of a chain that ends with this entry.
-pub(crate) fn head_of<H: Hash32>(h: &H, entry: &Entry) -> Head
-    ensures { result ≡ head_at (H.digest_of h.now) entry.now }
+/// Returns the head of a chain that ends with this entry, which has this link.
+pub(crate) fn head_of(entry: &Entry, link: Digest) -> Head
+    ensures { (hash : Octets → Octets) → link.0 ≡ hash (link_preimage entry.now) → result ≡ head_at hash entry.now }
 {
     Head {
         epoch: entry.body.t,
-        link: link(h, entry),
+        link,
     }
 }
 
@@ -166,19 +163,22 @@ fn put_entry(chain: &mut Vec<Entry>, entry: Entry)
     let _ = chain.push(entry);
 }
 
-/// Attaches an update, for which there is room, and adds its epoch and its entry.
+/// Attaches an update, for which there is room, adds its epoch and its entry, and stores the entry's link.
 pub(crate) fn enter<H: Hash32>(
     held: &mut DirectoryState,
     h: &H,
     update: Prepared,
     t: u64,
     entry: Entry,
+    link: Digest,
 )
+    requires link { link.0 ≡ H.digest_of h.now (link_preimage entry) }
     requires fits { Fits (length held.old.tree.nodes) 0 update.part }
     requires placed { Placed (held.old.tree.records ++ update.records.items) update.part }
     requires room { HasRoom held.old update }
     ensures count { length held.new.tree.nodes ≡ length held.old.tree.nodes + nodes_added update }
     ensures last { held.new.chain.items ≡ held.old.chain.items ++ entry ∷ [] }
+    ensures linked { IsLinked (H.digest_of h.now) held.new }
     ensures attached { (s : State) → state_of held.old ≡ s → IsAttached (H.digest_of h.now) s (state_of held.new) update t entry }
     ensures entered { (s : State) → state_of held.old ≡ s → IsEntered (H.digest_of h.now) s (state_of held.new) update t entry }
 {
@@ -200,4 +200,5 @@ pub(crate) fn enter<H: Hash32>(
     };
     put_epoch(&mut held.epochs, epoch);
     put_entry(&mut held.chain, entry);
+    held.link = link;
 }

@@ -1,7 +1,9 @@
 //! Lemmas about the definitions, each the contract of a function that does nothing.
 
-ghost use Rattle.std.specs.Prelude.{◌≡◌, ◌≢◌, ◌≤◌, ◌∷◌, ◌++◌, [], Bool, List, ℕ, suc, Option, None, Some, length, option_map, slice_get};
+ghost use Rattle.std.specs.Prelude.{◌≡◌, ◌≢◌, ◌⊎◌, ◌≤◌, ◌∷◌, ◌++◌, [], Bool, List, ℕ, suc, Option, None, Some, length, option_map, slice_get, true};
 ghost use Rattle.coniks_chain.specs.Chain.{Continues, GoodChain, epoch_before};
+ghost use Rattle.coniks_chain.specs.Entries.{body_bytes};
+ghost use Rattle.coniks_chain.specs.Evidence.{IsWellFormed};
 ghost use Rattle.coniks_chain.specs.declared.auditor.AuditorState.{AuditorState};
 ghost use Rattle.coniks_chain.specs.declared.entry.Entry.{Entry};
 ghost use Rattle.coniks_directory.specs.Alike.{AreAlikeEpochs, IsAlikeEpoch, SameBindings};
@@ -10,7 +12,7 @@ ghost use Rattle.coniks_directory.specs.Chain.{IsChainOf, heads_of};
 ghost use Rattle.coniks_directory.specs.History.{AreRising, Shown, latest_registry, numbers_of, root_at, shown_at};
 ghost use Rattle.coniks_directory.specs.Lookups.{IsAcceptedAt, IsFound};
 ghost use Rattle.coniks_directory.specs.Nodes.{epoch_nodes};
-ghost use Rattle.coniks_directory.specs.Restored.{restored_epoch, said_before};
+ghost use Rattle.coniks_directory.specs.Restored.{Restores, restored_epoch, said_before};
 ghost use Rattle.coniks_directory.specs.Runs.{AreAccepted, AreAcceptedFrom, Batch, IsPreparedOf, Run, Start, begins_after, defined, epochs_from, policy_of, restoring};
 ghost use Rattle.coniks_directory.specs.State.{State, Whole, history_of};
 ghost use Rattle.coniks_directory.specs.Supplied.{AgreeOn};
@@ -19,6 +21,7 @@ ghost use Rattle.coniks_directory.specs.Updates.{Grows, IsUpdate, IsUpdateOf, ba
 ghost use Rattle.coniks_directory.specs.declared.batch.Op.{Op};
 ghost use Rattle.coniks_directory.specs.declared.update.Prepared.{Prepared};
 ghost use Rattle.coniks_proof.specs.Batches.{Operation, after, first_fault};
+ghost use Rattle.coniks_proof.specs.Bindings.{AreOpenings, Collide, hashed_for};
 ghost use Rattle.coniks_proof.specs.Collisions.{Disagree};
 ghost use Rattle.coniks_proof.specs.Hashing.{Hashing, hashing};
 ghost use Rattle.coniks_proof.specs.Octets.{Octets};
@@ -28,6 +31,8 @@ ghost use Rattle.coniks_proof.specs.Paths.{IsPath};
 ghost use Rattle.coniks_proof.specs.declared.paths.Proof.{Proof};
 ghost use Rattle.coniks_proof.specs.declared.values.Head.{Head};
 ghost use Rattle.coniks_shared.specs.Lists.{Begins, last_of};
+
+use coniks_proof::laws::roots_bind;
 
 /// Proves that an update of a directory remains one while epochs are installed.
 ///
@@ -136,7 +141,8 @@ pub fn indices_may_be_supplied()
 /// batches, and return the same first error. The epochs that the batches make are alike. Alike epochs have the same root,
 /// keys and authentication paths, and their entries have the same body after the same entry. The same batch adds as many
 /// nodes after alike epochs. The entries before the restored chain and the restored chain are a good chain if both are
-/// good.
+/// good. An entry with no epoch before it is a good chain by itself, if its signature is verified, so a restored chain that
+/// begins with it needs no others.
 pub fn restored_directories_agree()
     ensures faults { (index_of : Octets → Octets) (registry other : Registry) (ops : List Operation) → SameBindings registry other
         → first_fault index_of registry ops ≡ first_fault index_of other ops }
@@ -175,4 +181,28 @@ pub fn restored_directories_agree()
     ensures chains { (hash : Octets → Octets) (verdict : Octets → Octets → Bool) (earlier more : List Entry) (entry : Entry)
         → GoodChain hash verdict (earlier ++ entry ∷ []) → Continues hash verdict (Some (said_before entry)) (entry ∷ more)
         → GoodChain hash verdict (earlier ++ entry ∷ more) }
+    ensures first { (hash : Octets → Octets) (verdict : Octets → Octets → Bool) (entry : Entry) → IsWellFormed entry.body → entry.body.t_prev ≡ 0
+        → verdict (body_bytes entry.body) entry.signature.0 ≡ true → GoodChain hash verdict (entry ∷ []) }
 {}
+
+/// Proves that two directories that have one entry have the same bindings at its epoch, or there is a collision.
+///
+/// Each name has the same index in both. So what `Restoring` restores from an entry of a directory is that epoch of it, from
+/// which on `restored_directories_agree` speaks of both. Else one of the byte strings that are hashed for the first tree and
+/// one of those for the second are a collision. A hash has 32 bytes, and so has an opening.
+pub fn one_entry_has_one_epoch()
+    ensures epochs { (hash index_of also : Octets → Octets) (s r : State) → ((bytes : Octets) → length (hash bytes) ≡ 32)
+        → Whole hash index_of s → Whole hash also r → (k j : ℕ) (shown other : Shown) (entry : Entry)
+        → slice_get (history_of s) k ≡ Some shown → slice_get (history_of r) j ≡ Some other
+        → slice_get s.chain k ≡ Some entry → slice_get r.chain j ≡ Some entry → AreOpenings shown.registry → AreOpenings other.registry
+        → (IsAlikeEpoch shown other × AgreeOn index_of also shown.registry)
+        ⊎ Collide hash (hashed_for hash index_of shown.nonce shown.registry) (hashed_for hash also shown.nonce other.registry) }
+    ensures restored { (hash index_of also : Octets → Octets) (s r : State) → ((bytes : Octets) → length (hash bytes) ≡ 32)
+        → Whole hash index_of s → Whole hash also r → (k : ℕ) (shown : Shown) (entry : Entry) (ops : List Operation)
+        → slice_get (history_of s) k ≡ Some shown → slice_get s.chain k ≡ Some entry → Restores entry ops r
+        → AreOpenings shown.registry → AreOpenings (after [] ops)
+        → (IsAlikeEpoch shown (restored_epoch entry ops) × AgreeOn index_of also shown.registry)
+        ⊎ Collide hash (hashed_for hash index_of shown.nonce shown.registry) (hashed_for hash also shown.nonce (after [] ops)) }
+{
+    roots_bind();
+}

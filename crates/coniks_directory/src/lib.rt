@@ -45,20 +45,28 @@
 //! let mut directory = Directory::open(alloc, TaggedHash, source, NONCE, POLICY);
 //!
 //! // Each operation comes with the index of its name. The install stores these indices.
-//! let batch = SuppliedBatch {
+//! let batch = OwnedBatch {
 //!     nonce: None,
-//!     ops: &ops,
-//!     indices: &indices,
+//!     ops,
+//!     indices,
 //! };
 //! let parallelism = Parallelism::new(2, 1)?;
-//! let update = directory.prepare_supplied(rt, &batch, parallelism, &Open)?;
-//! let installed = directory.install_supplied(update, 1, &mut signer, &mut publisher, &board);
+//! let update = directory.prepare_owned(rt, batch, parallelism, &Open)?;
+//!
+//! // The body is signed, here or elsewhere.
+//! let body = directory.next_body(&update, 1);
+//! let Some(signature) = key.signature(&body.bytes()) else {
+//!     bail!("epoch 1 is not signed");
+//! };
+//! if let Err((fault, _)) = directory.install_supplied(update, Entry { body, signature }) {
+//!     bail!("epoch 1: {fault}");
+//! }
 //! ```
 //!
 //! ```rust
 //! // A lookup takes the index along and stores nothing.
 //! let index = INDEX.index(b"mallory");
-//! let proof = directory.lookup_at(1, b"mallory", index)?;
+//! let found = directory.signed_lookup_at(1, b"mallory", index)?;
 //! ```
 #![tactic(auto)]
 
@@ -74,6 +82,7 @@ mod install;
 mod judge;
 pub mod laws;
 mod lengths;
+pub mod linked;
 pub mod lookup;
 mod name_key;
 mod pending;
@@ -89,9 +98,10 @@ pub mod update;
 pub use batch::{BatchFault, Op, OpFault, OpKind};
 pub use bindings::{BindingsFault, IndexedBinding};
 pub use directory::{Directory, Restoring};
+pub use linked::LinkedEntry;
 pub use lookup::{LookupAtFault, LookupFault, SignedProof};
 pub use restoring::RestoreFault;
 pub use source::IndexSource;
 pub use supplied::{SuppliedIndices, SupplyFault, SupplyIndex};
-pub use supplied_batch::{OwnedBatch, SuppliedBatch, SuppliedBatchFault, SuppliedBindings};
+pub use supplied_batch::{OwnedBatch, OwnedBindings, SuppliedBatchFault};
 pub use update::{CommitFault, InstallFault, Prepared};

@@ -1,14 +1,15 @@
 //! The state of a directory that is restored from a snapshot.
 
 ghost use Rattle.std.specs.Prelude.{◌≡◌, ◌≢◌, ◌≤◌, ◌+◌, ◌++◌, [], None, List, IfErr, IfOk, OnOk, length, true, false};
+ghost use Rattle.coniks_chain.specs.Evidence.{IsWellFormed};
 ghost use Rattle.coniks_proof.specs.Batches.{Operation, after};
 ghost use Rattle.coniks_proof.specs.Octets.{Octets};
 ghost use Rattle.coniks_proof.specs.Registry.{root_of};
 ghost use Rattle.coniks_tree.specs.Parts.{Fits, Placed};
 ghost use Rattle.coniks_directory.specs.Installed.{IsFirst};
 ghost use Rattle.coniks_directory.specs.Nodes.{epoch_nodes};
-ghost use Rattle.coniks_directory.specs.Restored.{IsEntryFault, IsRestorable, IsRestoreFault, IsRestoring, MayBegin, Restores, registrations, said_before};
-ghost use Rattle.coniks_directory.specs.State.{Whole, opened, state_of};
+ghost use Rattle.coniks_directory.specs.Restored.{IsEntryFault, IsRestorable, IsRestoreFault, IsRestoring, Restores, registrations, said_before};
+ghost use Rattle.coniks_directory.specs.State.{IsDirectory, IsLinked, Whole, opened, state_of};
 ghost use Rattle.coniks_directory.specs.Updates.{IsUpdate, nodes_added, registry_after};
 
 use crate::install::{enter, make_room};
@@ -17,7 +18,7 @@ use crate::preparing::{Build, Origin, part_of, update_of};
 use crate::source::IndexSource;
 use crate::state::DirectoryState;
 use crate::update::Prepared;
-use coniks_chain::{AuditorState, Entry};
+use coniks_chain::{AuditorState, Entry, is_well_formed, link};
 use coniks_proof::{Digest, Hash32};
 use coniks_tree::OutOfMemory;
 use coniks_work::Gate;
@@ -32,15 +33,17 @@ pub enum RestoreFault {
     NotLater,
     #[error("the entry's version is neither 1 nor 2")]
     Version,
+    #[error("the epoch before the entry's is 0, and its previous link isn't 32 zero bytes")]
+    Malformed,
     #[error("the root of the bindings isn't the entry's")]
     RootDiffers,
     #[error("out of memory")]
     OutOfMemory,
 }
 
-/// Checks that an entry can be the first of a chain.
+/// Checks that a good chain can have an entry, whatever is before it.
 pub(crate) fn check_entry(entry: &Entry) -> Result<(), RestoreFault>
-    ensures begins { OnOk result (MayBegin entry.now) }
+    ensures formed { OnOk result (IsWellFormed entry.now.body) }
     ensures refused { IfErr result (IsEntryFault entry.now) }
 {
     let body = &entry.body;
@@ -49,6 +52,9 @@ pub(crate) fn check_entry(entry: &Entry) -> Result<(), RestoreFault>
     }
     if body.version != 1 && body.version != 2 {
         return Err(RestoreFault::Version);
+    }
+    if !is_well_formed(body) {
+        return Err(RestoreFault::Malformed);
     }
     Ok(())
 }
@@ -107,6 +113,7 @@ fn enter_first<H: Hash32>(
 ) -> Result<(), OutOfMemory>
     requires fits { Fits (length held.old.tree.nodes) 0 update.part }
     requires placed { Placed (held.old.tree.records ++ update.records.items) update.part }
+    ensures linked { OnOk result (IsLinked (H.digest_of h.now) held.new) }
     ensures nodes { OnOk result (length held.new.tree.nodes ≡ length held.old.tree.nodes + nodes_added update) }
     ensures restored { OnOk result ((index_of : Octets → Octets) (ops : List Operation) → state_of held.old ≡ opened entry.body.nonce.0 entry.body.policy
         → IsUpdate (H.digest_of h.now) index_of (state_of held.old) update → IsFirst (H.digest_of h.now) index_of (state_of held.old) update ops entry
@@ -115,7 +122,7 @@ fn enter_first<H: Hash32>(
     make_room(held, &update)?;
     let t = entry.body.t;
     held.before = Some(said_before(&entry));
-    enter(held, h, update, t, entry);
+    enter(held, h, update, t, entry, link(h, &entry));
     Ok(())
 }
 
@@ -132,7 +139,7 @@ pub(crate) fn restored<H: Hash32 + Sync, X: IndexSource, G: Gate + Sync, R: Thre
     pending: PendingRecords,
 ) -> Result<DirectoryState, RestoreFault>
     requires { IsRestoring (H.digest_of h.now) (X.index_of source.now) entry (state_of held) pending.records.items pending.numbers }
-    ensures whole { IfOk result (λ later. Whole (H.digest_of h.now) (X.index_of source.now) (state_of later)) }
+    ensures kept { IfOk result (λ later. IsDirectory (H.digest_of h.now) (X.index_of source.now) later) }
     ensures restored { IfOk result (λ later. Restores entry (registrations pending.records.items) (state_of later)) }
     ensures nodes { IfOk result (λ later. length (state_of later).nodes ≡ epoch_nodes (X.index_of source.now) [] None (registrations pending.records.items)) }
     ensures accepted { OnOk result (IsRestorable (H.digest_of h.now) (X.index_of source.now)

@@ -7,14 +7,14 @@ ghost use Rattle.coniks_directory.specs.Holders.{IsLatestRoot};
 
 use crate::epochs::Epoch;
 use coniks_chain::{AuditorState, Entry};
-use coniks_proof::Nonce;
+use coniks_proof::{Digest, Nonce};
 use coniks_tree::{Root, Tree};
 use std::alloc::Global;
 
 /// The state of a directory beside its hash and its index source.
 ///
 /// It contains the nonce of `open` or of the entry that was restored, the policy, what the chain's first entry follows, the
-/// tree that all epochs share, the epochs and the chain.
+/// tree that all epochs share, the epochs, the chain, and the link of the last entry, or 32 zero bytes if there is none.
 #[derive(Drop)]
 pub(crate) struct DirectoryState {
     pub(crate) nonce: Nonce,
@@ -23,14 +23,16 @@ pub(crate) struct DirectoryState {
     pub(crate) tree: Tree,
     pub(crate) epochs: Vec<Epoch>,
     pub(crate) chain: Vec<Entry>,
+    pub(crate) link: Digest,
 }
 
 impl DirectoryState {
-    ghost use Rattle.coniks_directory.specs.State.{IsInstalled, Whole, history_of, opened, state_of};
+    ghost use Rattle.coniks_directory.specs.State.{IsInstalled, IsLinked, Whole, history_of, opened, state_of};
 
     /// Returns the state without epochs and names.
     pub(crate) fn new(alloc: Global, nonce: Nonce, policy: [u8; 32]) -> Self
-        ensures { state_of result ≡ opened nonce.0 policy }
+        ensures opened { state_of result ≡ opened nonce.0 policy }
+        ensures linked { (hash : Octets → Octets) → IsLinked hash result }
     {
         DirectoryState {
             nonce,
@@ -39,6 +41,7 @@ impl DirectoryState {
             tree: Tree::new(alloc),
             epochs: Vec::new(alloc),
             chain: Vec::new(alloc),
+            link: Digest([0; 32]),
         }
     }
 

@@ -28,7 +28,7 @@ pub trait SupplyIndex: IndexSource {
 ///
 /// Contracts see it as a list of names with their indices, in the order of the names.
 ///
-/// `prepare_supplied` takes batches that come with the indices of their names. For `prepare`, supply the index of each
+/// `prepare_owned` takes batches that come with the indices of their names. For `prepare`, supply the index of each
 /// name before a batch registers it; `has` returns whether that was done. A name without an index counts as having 32
 /// zero bytes, and is registered at that index permanently.
 #[derive(Drop)]

@@ -13,17 +13,6 @@ use std::alloc::{AllocError, Global};
 use thiserror::Error;
 
 /// A batch whose operations come with the indices of their names, which another process computed.
-#[derive(Clone, Copy)]
-pub struct SuppliedBatch<'a> {
-    /// The nonce under which the epoch's tree is rehashed, if any.
-    pub nonce: Option<Nonce>,
-    /// At most `MAX_OPERATIONS` operations.
-    pub ops: &'a [Op],
-    /// The index of each operation's name, in the order of the operations.
-    pub indices: &'a [Index],
-}
-
-/// A batch as `SuppliedBatch` is, whose operations the call takes.
 #[derive(Drop)]
 pub struct OwnedBatch {
     /// The nonce under which the epoch's tree is rehashed, if any.
@@ -35,11 +24,11 @@ pub struct OwnedBatch {
 }
 
 /// Bindings that come with the indices of their names, each a `Register` operation.
-#[derive(Clone, Copy)]
-pub struct SuppliedBindings<'a> {
-    pub bindings: &'a [Op],
+#[derive(Drop)]
+pub struct OwnedBindings {
+    pub bindings: Vec<Op>,
     /// The index of each binding's name, in the order of the bindings.
-    pub indices: &'a [Index],
+    pub indices: Vec<Index>,
 }
 
 /// The error of a batch that comes with its indices.

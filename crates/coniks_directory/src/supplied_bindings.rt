@@ -7,15 +7,15 @@ ghost use Rattle.coniks_proof.specs.Registry.{Registered};
 ghost use Rattle.coniks_directory.specs.Batches.{operations};
 ghost use Rattle.coniks_directory.specs.Judged.{ArePendingRecords, IsJudgedFaultAfter};
 ghost use Rattle.coniks_directory.specs.Supplied.{Supplied, supplied_index};
-ghost use Rattle.coniks_directory.specs.SuppliedBatches.{IsFresh, binding_index, given_index, indices_in, put_indices};
+ghost use Rattle.coniks_directory.specs.SuppliedBatches.{IsFresh, binding_index, given_index, index_in, indexed, indices_in, put_indices};
 ghost use Rattle.coniks_directory.specs.State.{registered_of};
 
-use crate::batch::BatchFault;
-use crate::judge::judge_copies;
+use crate::batch::{BatchFault, Op};
+use crate::judge::judge_all;
 use crate::pending::PendingRecords;
 use crate::source::IndexSource;
 use crate::supplied::SuppliedIndices;
-use crate::supplied_batch::{BatchIndices, SuppliedBindings, supply_all};
+use crate::supplied_batch::{BatchIndices, OwnedBindings, supply_all};
 use coniks_proof::Index;
 use coniks_tree::Tree;
 use std::alloc::{AllocError, Global};
@@ -45,16 +45,17 @@ fn fresh_indices(
     alloc: Global,
     source: &SuppliedIndices,
     pending: &PendingRecords,
-    batch: &SuppliedBindings<'_>,
+    bindings: &[Op],
+    indices: &[Index],
 ) -> Result<SuppliedIndices, AllocError>
-    requires { length batch.now.bindings.now ≡ length batch.now.indices.now }
+    requires { length bindings.now ≡ length indices.now }
     ensures { IfOk result (λ fresh. (hash : Octets → Octets) (bound : List Registered)
         → ArePendingRecords hash (supplied_index source.now) bound pending.now.records.items pending.now.numbers
-        → given_index fresh (supplied_index source.now) ≡ binding_index (supplied_index source.now) bound batch.now) }
+        → given_index fresh (supplied_index source.now) ≡ index_in (supplied_index source.now) bound (indexed bindings.now indices.now)) }
 {
     let mut fresh = SuppliedIndices::new(alloc);
-    for place in 0..batch.bindings.len() {
-        let (name, index) = (batch.bindings[place].name.as_slice(), batch.indices[place]);
+    for place in 0..bindings.len() {
+        let (name, index) = (bindings[place].name.as_slice(), indices[place]);
         add_fresh(source, pending, &mut fresh, name, index)?;
     }
     Ok(fresh)
@@ -70,28 +71,28 @@ pub(crate) fn judge_bindings(
     source: &SuppliedIndices,
     tree: &Tree,
     pending: &mut PendingRecords,
-    batch: &SuppliedBindings<'_>,
+    batch: OwnedBindings,
 ) -> Result<(), BatchFault>
-    requires { length batch.now.bindings.now ≡ length batch.now.indices.now }
+    requires { length batch.bindings.items ≡ length batch.indices.items }
     ensures pending { OnOk result ((hash : Octets → Octets) (bound : List Registered)
         → ArePendingRecords hash (supplied_index source.now) bound pending.old.records.items pending.old.numbers
-        → ArePendingRecords hash (binding_index (supplied_index source.now) bound batch.now)
-        (bound ++ map bound_by (operations batch.now.bindings.now)) pending.new.records.items pending.new.numbers) }
+        → ArePendingRecords hash (binding_index (supplied_index source.now) bound batch)
+        (bound ++ map bound_by (operations batch.bindings.items)) pending.new.records.items pending.new.numbers) }
     ensures faultless { OnOk result ((hash : Octets → Octets) (bound : List Registered)
         → ArePendingRecords hash (supplied_index source.now) bound pending.old.records.items pending.old.numbers
-        → fault_from (binding_index (supplied_index source.now) bound batch.now) [] bound 0 (operations batch.now.bindings.now) ≡ None) }
+        → fault_from (binding_index (supplied_index source.now) bound batch) [] bound 0 (operations batch.bindings.items) ≡ None) }
     ensures fault { IfErr result (λ fault. (hash : Octets → Octets) (bound : List Registered)
         → ArePendingRecords hash (supplied_index source.now) bound pending.old.records.items pending.old.numbers
-        → IsJudgedFaultAfter (binding_index (supplied_index source.now) bound batch.now) [] bound (operations batch.now.bindings.now) fault) }
+        → IsJudgedFaultAfter (binding_index (supplied_index source.now) bound batch) [] bound (operations batch.bindings.items) fault) }
     ensures kept { OnErr result ((hash : Octets → Octets) (bound : List Registered)
         → ArePendingRecords hash (supplied_index source.now) bound pending.old.records.items pending.old.numbers
         → ArePendingRecords hash (supplied_index source.now) bound pending.new.records.items pending.new.numbers) }
 {
-    let Ok(fresh) = fresh_indices(alloc, source, pending, batch) else {
+    let Ok(fresh) = fresh_indices(alloc, source, pending, &batch.bindings, &batch.indices) else {
         return Err(BatchFault::OutOfMemory);
     };
     let indices = BatchIndices { source, fresh };
-    judge_copies(alloc, &indices, tree, None, pending, batch.bindings)?;
+    judge_all(&indices, tree, None, pending, batch.bindings)?;
     Ok(())
 }
 

@@ -6,14 +6,14 @@ use Rattle.coniks_directory.specs.Restored.{IsRestorable, Restores}
 use Rattle.coniks_proof.specs.Octets.{Octets}
 use Rattle.coniks_proof.specs.declared.values.Nonce.{Nonce}
 use Rattle.coniks_directory.specs.Batches.{operations}
-use Rattle.coniks_directory.specs.Directories.{IsAlike}
+use Rattle.coniks_directory.specs.Directories.{IsAlike, NextBodyBy}
 use Rattle.coniks_directory.specs.History.{latest_registry, nonce_bytes}
-use Rattle.coniks_directory.specs.Installs.{AddsBatch, AddsSupplied, AddsUpdate, IsCommitResult, IsInstallResult, KeepsIndices}
+use Rattle.coniks_directory.specs.Installs.{AddsBatch, AddsSupplied, AddsUpdate, IsCommitResult, IsInstallResult, IsNextEntry, IsNextResult, KeepsIndices, LeavesSupplied}
 use Rattle.coniks_directory.specs.Runs.{Batch, IsPreparedOf, Run, Start, committed, installed, restored, restoring, supplied}
 use Rattle.coniks_directory.specs.State.{State, View, history_of}
 use Rattle.coniks_directory.specs.Supplied.{AgreeOn, Supplied, supplied_index}
 use Rattle.coniks_directory.specs.SuppliedBatches.{IsSuppliedUpdate}
-use Rattle.coniks_directory.specs.Updates.{Grows, registry_after}
+use Rattle.coniks_directory.specs.Updates.{Grows, registry_after, shown_after}
 use Rattle.coniks_directory.specs.declared.batch.Op.{Op}
 use Rattle.coniks_directory.specs.declared.update.CommitFault.{CommitFault}
 use Rattle.coniks_directory.specs.declared.update.InstallFault.{InstallFault}
@@ -32,11 +32,14 @@ pub handed_back : (s : State) (update : Prepared) (t published capacity : ℕ) (
 handed_back s update t published capacity (Ok entry) is = tt
 handed_back s update t published capacity (Err r) is = is.1
 
--- and so what is true of the update is true of the one that is returned
-pub true_of_returned : (s : State) (update : Prepared) (t published capacity : ℕ) (result : Result Entry (InstallFault × Prepared)) (P : Prepared → Type 0)
-    → IsInstallResult s update t published capacity result → P update → IfErr result (λ r. P r.1)
-true_of_returned s update t published capacity (Ok entry) P is holds = tt
-true_of_returned s update t published capacity (Err r) P is holds = subst P (sym is.1) holds
+-- the update that a refused `install_supplied` returns can be installed with the same entry
+pub next_still : {H : Type 0} (digest : H → Octets → Octets) (result : Result (Unit {0}) (InstallFault × Prepared)) (v v' : View H (List Supplied)) (update : Prepared) (entry : Entry) (index : Octets → Octets)
+    → IsNextResult v.state update entry.body.t result → KeepsIndices v v' → IfErr result (λ r. LeavesSupplied update v v' r.0)
+    → IsSuppliedUpdate (digest v'.hash) (supplied_index v'.index) v'.state update index → entry.body ≡ NextBodyBy digest v index (shown_after v.state update entry.body.t)
+    → IfErr result (λ r. IsNextEntry digest v' r.1 entry)
+next_still digest (Ok _) v v' update entry index is same left given body = tt
+next_still digest (Err r) v v' update entry index is same left given body =
+    subst (λ (p : Prepared). IsNextEntry digest v' p entry) (sym is.1) (record { index = index; supplied = given; body = rw (left.state, same.hash) body })
 
 -- a `finish`, with which a restored directory begins
 pub restore_step : {H X E : Type 0} (digest : H → Octets → Octets) (index : X → Octets → Octets) (h : H) (x : X) (result : Result (View H X) E) (entry : Entry) (ops : List Operation)
@@ -58,9 +61,9 @@ install_step digest index (Err e) v v' update t published capacity added may sam
 install_step digest index (Ok a) v v' update t published capacity added may same grows = λ then start batches earlier new_nonce ops depth workers run prepared agree since.
     moved digest index v.hash v'.hash v.index v'.index start (batches ++ record { t = t; new_nonce = new_nonce; ops = ops } ∷ []) v'.state same.hash same.index
     (installed (index v.index) then start batches (record { t = t; new_nonce = new_nonce; ops = ops })
-    earlier v.state v'.state update depth workers published capacity run prepared agree since may added.history grows)
+    earlier v.state v'.state update depth workers run prepared agree since may.next added.history grows)
 
--- a `commit` or a `commit_with`
+-- a `commit`
 pub commit_step : {H X : Type 0} (digest : H → Octets → Octets) (index : X → Octets → Octets) (result : Result Entry CommitFault)
     (v v' : View H X) (new_nonce : Option Nonce) (ops : List Op) (depth workers t published capacity : ℕ)
     → IfOk result (AddsBatch digest index v v' new_nonce ops t) → IsCommitResult index v ops depth workers t published capacity result → IsAlike v' v → Grows v.state v'.state
@@ -70,7 +73,7 @@ commit_step digest index (Err e) v v' new_nonce ops depth workers t published ca
 commit_step digest index (Ok a) v v' new_nonce ops depth workers t published capacity added may same grows = λ start batches run.
     let b : Batch = record { t = t; new_nonce = nonce_bytes new_nonce; ops = operations ops } in
     moved digest index v.hash v'.hash v.index v'.index start (batches ++ b ∷ []) v'.state same.hash same.index
-    (committed (index v.index) start batches b v.state v'.state depth workers published capacity run may.accepted may.may added.epoch.history grows)
+    (committed (index v.index) start batches b v.state v'.state depth workers run may.accepted may.may.next added.epoch.history grows)
 
 -- a `supply`, refused or not
 pub supply_step : {H X : Type 0} (digest : H → Octets → Octets) (index : X → Octets → Octets) (v v' : View H X) → v'.state ≡ v.state → v'.hash ≡ v.hash
@@ -82,17 +85,17 @@ supply_step {H} digest index v v' same_state same_hash agree start batches run =
     (supplied (index v.index) (index v'.index) start batches v.state run agree))
 
 -- an `install_supplied` of an update that was prepared from the directory as it is
-pub install_supplied_step : {H : Type 0} (digest : H → Octets → Octets) (result : Result Entry (InstallFault × Prepared)) (v v' : View H (List Supplied)) (update : Prepared) (t published capacity : ℕ)
-    → IfOk result (AddsSupplied digest v v' update t) → IsInstallResult v.state update t published capacity result
+pub install_supplied_step : {H : Type 0} (digest : H → Octets → Octets) (result : Result (Unit {0}) (InstallFault × Prepared)) (v v' : View H (List Supplied)) (update : Prepared) (t : ℕ) (entry : Entry)
+    → OnOk result (AddsSupplied digest v v' update t entry) → IsNextResult v.state update t result
     → KeepsIndices v v' → Grows v.state v.state → Grows v.state v'.state
     → OnOk result ((index : Octets → Octets) (start : Start) (batches : List Batch) (new_nonce : Option Octets) (ops : List Operation) (depth workers : ℕ)
     → Run (digest v.hash) (supplied_index v.index) start batches v.state
     → IsSuppliedUpdate (digest v.hash) (supplied_index v.index) v.state update index
     → IsPreparedOf (digest v.hash) index v.state new_nonce ops depth workers update
     → Run (digest v'.hash) (supplied_index v'.index) start (batches ++ record { t = t; new_nonce = new_nonce; ops = ops } ∷ []) v'.state)
-install_supplied_step digest (Err e) v v' update t published capacity added may same still grows = added
-install_supplied_step {H} digest (Ok a) v v' update t published capacity added may same still grows = λ index start batches new_nonce ops depth workers run update_is prepared.
+install_supplied_step digest (Err e) v v' update t entry added may same still grows = added
+install_supplied_step {H} digest (Ok a) v v' update t entry added may same still grows = λ index start batches new_nonce ops depth workers run update_is prepared.
     let then = supplied_index v'.index in
     subst (λ (h : H). Run (digest h) then start (batches ++ record { t = t; new_nonce = new_nonce; ops = ops } ∷ []) v'.state) (sym same.hash)
-    (installed then index start batches (record { t = t; new_nonce = new_nonce; ops = ops }) v.state v.state v'.state update depth workers published capacity
+    (installed then index start batches (record { t = t; new_nonce = new_nonce; ops = ops }) v.state v.state v'.state update depth workers
     (supplied (supplied_index v.index) then start batches v.state run same.agree) prepared (added.given index update_is) still may (added.epoch index update_is).history grows)

@@ -2,13 +2,14 @@
 use Rattle.std.proofs.Common.{◌≡◌, ℕ, List, [], ◌∷◌, map, true, false, refl, sym, ap, subst, ◌∙◌, Option, Some, None, if◌then◌else◌}
 use Rattle.std.specs.Prelude.{◌==◌, cond, find, is_some, zip}
 use Rattle.std.proofs.lemmas.Bool.{false≢true}
+use Rattle.std.proofs.lemmas.Option.{same_Some}
 use Rattle.coniks_chain.specs.Chain.{auditor_after}
 use Rattle.coniks_chain.specs.declared.auditor.AuditorState.{AuditorState}
 use Rattle.coniks_chain.specs.declared.entry.Entry.{Entry}
 use Rattle.coniks_directory.specs.History.{Shown, shown_at}
 use Rattle.coniks_directory.specs.Lookups.{IsFound, IsMissed}
 use Rattle.coniks_directory.specs.declared.lookup.LookupFault.{LookupFault}
-use Rattle.coniks_directory.specs.declared.lookup.LookupFault.TheVariants.{NameLength, UnknownEpoch}
+use Rattle.coniks_directory.specs.declared.lookup.LookupFault.TheVariants.{NameLength, OutOfMemory, UnknownEpoch}
 use Rattle.coniks_proof.specs.Batches.{fits}
 use Rattle.coniks_proof.specs.Hashing.{hashing}
 use Rattle.coniks_proof.specs.Registry.{entries_of}
@@ -18,7 +19,8 @@ use Rattle.coniks_proof.specs.declared.values.TheConstants.{MAX_NAME}
 use Rattle.coniks_tool.specs.Chains.{chain_after, chain_of, entry_after}
 use Rattle.coniks_tool.specs.Demo.{demo_index}
 use Rattle.coniks_json.specs.Paths.{Path, path_of, path_to}
-use Rattle.coniks_json.specs.Refusals.{bad_name_length, unknown_epoch}
+use Rattle.coniks_json.specs.Refusals.{Refusal, bad_name_length, unknown_epoch}
+use Rattle.coniks_tool.specs.Refusals.{lookup_refused_as}
 use Rattle.coniks_tool.specs.ScriptReplies.{because, looked_up}
 use Rattle.coniks_tool.specs.Script.{Chained, ScriptDirectory, epoch_at, epochs_of, lookup_at, lookup_with}
 use Rattle.coniks_json.proofs.Lemmas.{path_is}
@@ -83,6 +85,12 @@ module _ (o : ScriptDirectory) (epoch : ℕ) (name bytes : List ℕ) (same : byt
   missed_epoch fault is missed =
       let none : shown_at o.history epoch ≡ None = subst (λ (f : LookupFault). IsMissed o.history epoch bytes f) is missed in
       sym (ap (lookup_at (demo_index o.key) name) (both o.key o.policy epoch None o.history ∙ ap (λ (s : Option Shown). pair_up s (entry_at (chain_of o.key o.policy o.history) epoch)) none))
+
+  -- and so a lookup is refused by its error
+  pub missed_is : (fault : LookupFault) (why : Refusal) → IsMissed o.history epoch bytes fault → lookup_refused_as fault ≡ Some why → because why ≡ lookup_with (Some o) epoch name
+  missed_is UnknownEpoch why missed is = ap because (sym (same_Some unknown_epoch why is)) ∙ missed_epoch UnknownEpoch refl missed
+  missed_is NameLength why missed is = ap because (sym (same_Some bad_name_length why is)) ∙ missed_length NameLength refl missed
+  missed_is OutOfMemory why missed is = absurd (let never = is in cc)
 
   module _ (proof : Proof) (found : IsFound sha256 (demo_index o.key) o.history epoch bytes proof) (chain : List Entry) (is : chain ≡ chain_of o.key o.policy o.history) where
     here : (e : Option Entry) → e ≡ entry_at chain epoch → lookup_with (Some o) epoch name ≡ lookup_at (demo_index o.key) name (pair_up (shown_at o.history epoch) e)

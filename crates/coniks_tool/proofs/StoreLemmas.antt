@@ -110,7 +110,7 @@ installs key key' s t b depth workers published capacity entry verdict own same_
     subst (λ (es : List Entry). GoodChain sha256 verdict es) chain (from_first verdict t begun good) in
     let room : published ≢ most_epochs = subst (λ n. published ≢ n) full may.room in
     record {
-      faultless = accepted_is (demo_index key) (history_of s) b.t b.ops depth workers published accepted may.later room most long;
+      faultless = accepted_is (demo_index key) (history_of s) b.t b.ops depth workers published accepted may.next.later room most long;
       entry_is = entry_is key s.policy verdict own (history_of s) shown s.chain entry is' good';
       state_is = same_opened key' key t.nonce s.nonce t.policy s.policy (history_of t) (history_of s ++ shown ∷ []) same_key grows.nonce grows.policy history;
     }

@@ -1,4 +1,4 @@
--- Why a batch is refused.
+-- Why a batch or a lookup is refused.
 use Rattle.std.specs.Prelude.{◌≡◌, ℕ, List, length, nat_lt, nat_le, Option, Some, None, if◌then◌else◌}
 use Rattle.coniks_proof.specs.Batches.{Operation, Fault, first_fault}
 use Rattle.coniks_proof.specs.Octets.{Octets}
@@ -9,7 +9,9 @@ use Rattle.coniks_directory.specs.declared.batch.BatchFault.TheVariants as batch
 use Rattle.coniks_directory.specs.declared.update.CommitFault.{CommitFault}
 use Rattle.coniks_directory.specs.declared.update.CommitFault.TheVariants.{Batch, Install}
 use Rattle.coniks_directory.specs.declared.update.InstallFault.TheVariants as install
-use Rattle.coniks_json.specs.Refusals.{Refusal, bad_batch, batch_too_long, board_full, epoch_not_later}
+use Rattle.coniks_directory.specs.declared.lookup.LookupFault.{LookupFault}
+use Rattle.coniks_directory.specs.declared.lookup.LookupFault.TheVariants as lookup
+use Rattle.coniks_json.specs.Refusals.{Refusal, bad_batch, bad_name_length, batch_too_long, board_full, epoch_not_later, unknown_epoch}
 use Rattle.coniks_tool.specs.Limits.{most_epochs}
 
 -- why no batch is installed under a number: it isn't later, else there are as many epochs as the board takes heads
@@ -43,3 +45,9 @@ IsRefusedBy why (Install (install.EpochNotLater latest)) = why ≡ Some (epoch_n
 IsRefusedBy why (Install install.BoardFull) = why ≡ Some board_full
 IsRefusedBy why (Install install.OutOfMemory) = Unit {0}
 IsRefusedBy why (Install install.SignerRefused) = ⊥
+
+-- why a lookup with this error is refused; nothing if an allocation failed
+abbrev pub lookup_refused_as : LookupFault → Option Refusal
+lookup_refused_as lookup.UnknownEpoch = Some unknown_epoch
+lookup_refused_as lookup.NameLength = Some bad_name_length
+lookup_refused_as lookup.OutOfMemory = None

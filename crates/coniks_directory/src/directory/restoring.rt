@@ -1,22 +1,22 @@
 //! A directory that is restored from a snapshot: the latest entry, and the bindings at its epoch.
 
-ghost use Rattle.std.specs.Prelude.{◌≡◌, ◌<◌, ◌++◌, [], ℕ, Bool, Err, IfErr, IfOk, None, OnErr, OnOk, length, map, true};
+ghost use Rattle.std.specs.Prelude.{◌≡◌, ◌<◌, ◌++◌, [], ℕ, Bool, Err, IfErr, IfOk, None, OnErr, OnOk, length, map, take, true};
 ghost use Rattle.coniks_chain.specs.Entries.{body_bytes};
+ghost use Rattle.coniks_chain.specs.Evidence.{IsWellFormed};
 ghost use Rattle.coniks_proof.specs.Batches.{bound_by, fault_from};
 ghost use Rattle.coniks_proof.specs.Octets.{Octets};
 ghost use Rattle.coniks_directory.specs.Batches.{operations};
-ghost use Rattle.coniks_directory.specs.Directories.{HasGoodChain, heads};
+ghost use Rattle.coniks_directory.specs.Directories.{HasGoodChain};
 ghost use Rattle.coniks_directory.specs.Judged.{IsJudgedFaultAfter};
 ghost use Rattle.coniks_directory.specs.Nodes.{epoch_nodes};
 ghost use Rattle.coniks_directory.specs.Supplied.{AgreeOn, supplied_index};
 ghost use Rattle.coniks_directory.specs.SuppliedBatches.{binding_index, indices_by, put_indices};
 ghost use Rattle.coniks_directory.specs.declared.batch.BatchFault.TheVariants.{At};
 ghost use Rattle.coniks_directory.specs.declared.batch.OpFault.{OpFault};
-ghost use Rattle.coniks_directory.specs.Restored.{IsEntryFault, IsRestorable, IsRestoreFault, MayBegin, Restores};
+ghost use Rattle.coniks_directory.specs.Restored.{IsEntryFault, IsRestorable, IsRestoreFault, Restores};
 
 use crate::batch::{BatchFault, Op};
 use crate::directory::Directory;
-use crate::install::{head_of, put_head};
 use crate::judge::judge_copies;
 use crate::pending::PendingRecords;
 use crate::preparing::Build;
@@ -24,11 +24,10 @@ use crate::restoring::{RestoreFault, check_entry, restored};
 use crate::source::IndexSource;
 use crate::state::DirectoryState;
 use crate::supplied::SuppliedIndices;
-use crate::supplied_batch::SuppliedBindings;
+use crate::supplied_batch::OwnedBindings;
 use crate::supplied_bindings::{judge_bindings, supply_since};
 use coniks_chain::Entry;
 use coniks_proof::Hash32;
-use coniks_shared::{Board, Publisher};
 use coniks_work::{Gate, Parallelism};
 use std::alloc::Global;
 use std::marker::Model;
@@ -67,10 +66,11 @@ impl<H: Hash32 + Drop, X: IndexSource + Drop> Restoring<H, X> {
     ///
     /// - `NotLater` if the entry's epoch is not later than the one before it.
     /// - `Version` if its version is neither 1 nor 2.
+    /// - `Malformed` if the epoch before it is 0 and its link is not 32 zero bytes. No chain has such an entry.
     /// - `OutOfMemory` if an allocation fails.
     pub fn new(alloc: Global, h: H, source: X, entry: Entry) -> Result<Self, RestoreFault>
         ensures begun { IfOk result (λ r. r ≡ record { hash = h; index = source; entry = entry; ops = [] }) }
-        ensures begins { OnOk result (MayBegin entry) }
+        ensures formed { OnOk result (IsWellFormed entry.body) }
         ensures refused { IfErr result (IsEntryFault entry) }
     {
         check_entry(&entry)?;
@@ -123,23 +123,27 @@ impl<H: Hash32> Restoring<H, SuppliedIndices> {
     /// A new name has the index that comes with it, whatever index the source has for it. There are as many indices as
     /// bindings.
     ///
+    /// The restore takes the names and the keys of the bindings. The call copies no key.
+    ///
     /// # Errors
     ///
-    /// The errors of `add`. After an error the bindings are those before the call. After `OutOfMemory` some of the indices
-    /// may be stored, and the same call can be made again.
-    pub fn add_supplied(&mut self, batch: &SuppliedBindings<'_>) -> Result<(), BatchFault>
-        requires { length batch.now.bindings.now ≡ length batch.now.indices.now }
-        ensures added { OnOk result (self.new.ops ≡ self.old.ops ++ operations batch.now.bindings.now) }
-        ensures accepted { OnOk result (fault_from (binding_index (supplied_index self.old.index) (map bound_by self.old.ops) batch.now)
-            [] (map bound_by self.old.ops) 0 (operations batch.now.bindings.now) ≡ None) }
+    /// The errors of `add`. After an error the bindings are those before the call. After `OutOfMemory` the indices of the
+    /// first bindings may be stored, and no others. The call can be made again with the same bindings and indices.
+    pub fn add_supplied(&mut self, batch: OwnedBindings) -> Result<(), BatchFault>
+        requires { length batch.bindings.items ≡ length batch.indices.items }
+        ensures added { OnOk result (self.new.ops ≡ self.old.ops ++ operations batch.bindings.items) }
+        ensures accepted { OnOk result (fault_from (binding_index (supplied_index self.old.index) (map bound_by self.old.ops) batch)
+            [] (map bound_by self.old.ops) 0 (operations batch.bindings.items) ≡ None) }
         ensures indices { OnOk result (self.new.index ≡ put_indices self.old.index
-            (indices_by (binding_index (supplied_index self.old.index) (map bound_by self.old.ops) batch.now) (operations batch.now.bindings.now))) }
+            (indices_by (binding_index (supplied_index self.old.index) (map bound_by self.old.ops) batch) (operations batch.bindings.items))) }
         ensures hash { self.new.hash ≡ self.old.hash }
         ensures entry { self.new.entry ≡ self.old.entry }
-        ensures refused { IfErr result (IsJudgedFaultAfter (binding_index (supplied_index self.old.index) (map bound_by self.old.ops) batch.now)
-            [] (map bound_by self.old.ops) (operations batch.now.bindings.now)) }
+        ensures refused { IfErr result (IsJudgedFaultAfter (binding_index (supplied_index self.old.index) (map bound_by self.old.ops) batch)
+            [] (map bound_by self.old.ops) (operations batch.bindings.items)) }
         ensures unchanged { OnErr result (self.new.ops ≡ self.old.ops) }
         ensures kept { OnErr result (AgreeOn (supplied_index self.old.index) (supplied_index self.new.index) (map bound_by self.old.ops)) }
+        ensures stored { OnErr result ((n : ℕ) × (self.new.index ≡ put_indices self.old.index
+            (take n (indices_by (binding_index (supplied_index self.old.index) (map bound_by self.old.ops) batch) (operations batch.bindings.items))))) }
         ensures whole { (position : ℕ) (fault : OpFault) → result ≡ Err (At position fault) → self.new ≡ self.old }
     {
         let earlier = self.pending.count();
@@ -158,15 +162,15 @@ impl<H: Hash32> Restoring<H, SuppliedIndices> {
 }
 
 impl<H: Hash32 + Sync + Drop, X: IndexSource + Drop> Restoring<H, X> {
-    /// Returns the directory, and publishes the entry's head.
+    /// Returns the directory.
     ///
     /// The bindings are those of the directory that had the entry, in any order. The tree is built as that of an update
-    /// is. The entry is kept as it is, with its signature, and nothing is signed. The publisher is the board's, and has
-    /// published no head.
+    /// is. The entry is kept as it is, with its signature, and nothing is signed. Before an `install` the entry's head,
+    /// with `latest_link`, is published on the board.
     ///
     /// # Errors
     ///
-    /// `OutOfMemory` can replace `RootDiffers`. After an error the board is unchanged.
+    /// `OutOfMemory` can replace `RootDiffers`. After an error the bindings are gone: begin again to restore.
     ///
     /// - `RootDiffers` if the root of the bindings is not the entry's.
     /// - `OutOfMemory` if an allocation fails.
@@ -175,14 +179,7 @@ impl<H: Hash32 + Sync + Drop, X: IndexSource + Drop> Restoring<H, X> {
         rt: &R,
         parallelism: Parallelism,
         gate: &G,
-        publisher: &mut Publisher,
-        board: &Board,
     ) -> Result<Directory<H, X>, RestoreFault>
-        requires table { publisher.old.table ≡ board.now.table }
-        requires published { publisher.old.heads ≡ [] }
-        requires room { 0 < board.now.capacity }
-
-        // What is restored.
         ensures restored { IfOk result (λ d. Restores self.entry self.ops d.state) }
         ensures nodes { IfOk result (λ d. length d.state.nodes ≡ epoch_nodes (X.index_of self.index) [] None self.ops) }
         ensures hash { IfOk result (λ d. d.hash ≡ self.hash) }
@@ -190,14 +187,7 @@ impl<H: Hash32 + Sync + Drop, X: IndexSource + Drop> Restoring<H, X> {
         ensures accepted { OnOk result (IsRestorable (H.digest_of self.hash) (X.index_of self.index) self.entry self.ops) }
         ensures good { IfOk result (λ d. (verdict : Octets → Octets → Bool)
             → verdict (body_bytes self.entry.body) self.entry.signature.0 ≡ true → HasGoodChain H.digest_of verdict d) }
-
-        // The head on the board.
-        ensures heads { IfOk result (λ d. publisher.new.heads ≡ heads H.digest_of d) }
-        ensures table { publisher.new.table ≡ publisher.old.table }
-
-        // An error.
         ensures refused { IfErr result (IsRestoreFault (H.digest_of self.hash) (X.index_of self.index) self.entry self.ops) }
-        ensures unchanged { OnErr result (publisher.new ≡ publisher.old) }
     {
         let build = Build {
             rt,
@@ -213,7 +203,6 @@ impl<H: Hash32 + Sync + Drop, X: IndexSource + Drop> Restoring<H, X> {
             pending,
         } = self;
         let held = restored(&build, alloc, &h, &source, entry, held, pending)?;
-        put_head(publisher, board, head_of(&h, &entry));
         Ok(Directory {
             alloc,
             h,

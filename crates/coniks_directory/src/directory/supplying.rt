@@ -1,30 +1,29 @@
 //! A directory whose indices are supplied: lookups, batches and installs that come with the indices of names.
 
 ghost use Rattle.std.specs.Prelude.{◌≡◌, ◌≢◌, ◌≤◌, ◌++◌, ◌∷◌, [], List, None, Some, IfErr, IfOk, OnErr, OnOk, length, true, false};
+ghost use Rattle.coniks_chain.specs.Entries.{link_preimage};
 ghost use Rattle.coniks_proof.specs.Octets.{Octets};
 ghost use Rattle.coniks_proof.specs.Registry.{has_name};
 ghost use Rattle.coniks_directory.specs.Batches.{IsAccepted, operations};
-ghost use Rattle.coniks_directory.specs.Directories.{FindsAt, ShowsAt, batch_index, entry, history, index_with, registry};
+ghost use Rattle.coniks_directory.specs.Directories.{FindsAt, ShowsAt, entry, history, index_with, registry};
 ghost use Rattle.coniks_directory.specs.History.{nonce_bytes};
 ghost use Rattle.coniks_directory.specs.Supplied.{IsMissedAt, MaySupply};
-ghost use Rattle.coniks_directory.specs.Updates.{HasRefused, IsUpdateOf};
+ghost use Rattle.coniks_directory.specs.Updates.{IsUpdateOf};
 
-use crate::batch::{BatchFault, Op, check_length, copies_of};
+use crate::batch::{BatchFault, Op, check_length};
 use crate::directory::Directory;
-use crate::install::may_install;
+use crate::install::{check_next, enter, make_room};
 use crate::judge::judged;
 use crate::lengths::is_name;
+use crate::linked::LinkedEntry;
 use crate::lookup::{LookupAtFault, SignedProof};
 use crate::preparing::{Build, Origin, update_on};
 use crate::source::IndexSource;
 use crate::supplied::{SuppliedIndices, SupplyFault, SupplyIndex};
-use crate::supplied_batch::{
-    BatchIndices, OwnedBatch, SuppliedBatch, SuppliedBatchFault, earlier_of, supply_all,
-};
+use crate::supplied_batch::{BatchIndices, OwnedBatch, SuppliedBatchFault, earlier_of, supply_all};
 use crate::update::{InstallFault, Prepared};
-use coniks_chain::{Entry, Sign};
-use coniks_proof::{Hash32, Index, Nonce, Proof};
-use coniks_shared::{Board, Publisher};
+use coniks_chain::{Entry, link};
+use coniks_proof::{Digest, Hash32, Index, Nonce, Sha256Hash};
 use coniks_work::{Gate, Parallelism};
 use std::alloc::AllocError;
 use std::thread::Threads;
@@ -43,8 +42,8 @@ impl<H: Hash32, X: IndexSource> Directory<H, X> {
 
     /// Looks up a name at an index that comes with the call, and stores nothing.
     ///
-    /// The proof is the one that `lookup` returns if the source gives the name this index. The call waits for no other
-    /// thread.
+    /// Returns the epoch's entry and the index with the proof, which is the one that `lookup` returns if the source gives
+    /// the name this index. The call waits for no other thread.
     ///
     /// # Errors
     ///
@@ -54,20 +53,6 @@ impl<H: Hash32, X: IndexSource> Directory<H, X> {
     /// - `NameLength` if the name is empty or longer than `MAX_NAME` bytes.
     /// - `OtherIndex` if the name is registered with another index.
     /// - `OutOfMemory` if an allocation fails.
-    pub fn lookup_at(&self, t: u64, name: &[u8], index: Index) -> Result<Proof, LookupAtFault>
-        ensures may { OnOk result (MaySupply (X.index_of self.now.index) (registry self.now) name.now index.0) }
-        ensures ok { IfOk result (FindsAt H.digest_of X.index_of self.now t name.now index.0) }
-        ensures accepted { IfOk result (ShowsAt H.digest_of X.index_of self.now t name.now index.0) }
-        ensures missed { IfErr result (IsMissedAt (X.index_of self.now.index) (history self.now) (registry self.now) t name.now index.0) }
-    {
-        Ok(self.signed_lookup_at(t, name, index)?.proof)
-    }
-
-    /// Looks up a name as `lookup_at` does, and returns the epoch's entry and the index with the proof.
-    ///
-    /// # Errors
-    ///
-    /// The errors of `lookup_at`, in the same order.
     pub fn signed_lookup_at(
         &self,
         t: u64,
@@ -145,57 +130,93 @@ impl<H: Hash32, X: SupplyIndex> Directory<H, X> {
 
 impl<H: Hash32> Directory<H, SuppliedIndices> {
     ghost use Rattle.std.specs.Prelude.{length};
-    ghost use Rattle.coniks_directory.specs.Installs.{AddsSupplied, HasSigned, IsInstallResult, IsReady, Keeps, KeepsIndices, LeavesSupplied, SuppliedLeavesSigner};
-    ghost use Rattle.coniks_directory.specs.Supplied.{supplied_index};
-    ghost use Rattle.coniks_directory.specs.SuppliedBatches.{IsSuppliedUpdate};
-    ghost use Rattle.coniks_directory.specs.Updates.{refusals};
+    ghost use Rattle.coniks_directory.specs.Installs.{AddsSupplied, Follows, IsNextResult, IsNextEntry, KeepsIndices, LeavesSupplied};
 
-    /// Supplies the indices of an update's names and installs the update, as `install` does.
-    ///
-    /// The update contains the indices. A name is registered from then on, and keeps its index.
-    ///
-    /// The update was prepared from this directory. Unless an epoch was installed since then, the source still gives each
-    /// registered name the index that it had.
-    ///
-    /// # Errors
-    ///
-    /// The errors of `install`, in the same order and with the update. After an error nothing is installed or published.
-    /// After `Stale`, `EpochNotLater` or `BoardFull` no index is supplied. After `OutOfMemory` the indices of the update's
-    /// first names may be supplied, and after `SignerRefused` all of them are. The same update can then be installed again.
+    /// Supplies the indices of an update's names, and installs the update with its entry, which has this link.
     #[tactic(auto, using(crate::proofs::FreshLemmas::growth))]
-    pub fn install_supplied<S: Sign>(
+    fn install_next(
         &mut self,
         update: Prepared,
-        t: u64,
-        signer: &mut S,
-        publisher: &mut Publisher,
-        board: &Board,
-    ) -> Result<Entry, (InstallFault, Prepared)>
-        requires update { (index : Octets → Octets) × IsSuppliedUpdate (H.digest_of self.old.hash) (supplied_index self.old.index) self.old.state update index }
-        requires ready { IsReady H.digest_of S.made_of S.refused_of self.old signer.old publisher.old board.now }
-
-        // An entry.
-        ensures installed { IfOk result (AddsSupplied H.digest_of self.old self.new update t) }
-        ensures signed { IfOk result (HasSigned S.made_of S.refused_of S.last_of S.signs S.verdict_of signer.old signer.new) }
-
-        // An entry or an error.
-        ensures outcome { IsInstallResult self.old.state update t (length publisher.old.heads) board.now.capacity result }
+        entry: Entry,
+        link: Digest,
+    ) -> Result<(), (InstallFault, Prepared)>
+        requires next { IsNextEntry H.digest_of self.old update entry }
+        requires link { link.0 ≡ H.digest_of self.old.hash (link_preimage entry) }
+        ensures installed { OnOk result (AddsSupplied H.digest_of self.old self.new update entry.body.t entry) }
+        ensures outcome { IsNextResult self.old.state update entry.body.t result }
         ensures same { KeepsIndices self.old self.new }
-        ensures kept { Keeps H.digest_of S.verdict_of self.old self.new signer.old signer.new publisher.old publisher.new }
-
-        // An error.
-        ensures unchanged { IfErr result (λ r. LeavesSupplied update self.old self.new publisher.old publisher.new r.0) }
-        ensures unsigned { IfErr result (λ r. HasRefused S.made_of S.refused_of S.last_of signer.old signer.new (refusals r.0)) }
-        ensures unasked { IfErr result (λ r. SuppliedLeavesSigner H.digest_of S.signs self.old update t signer.old signer.new r.0) }
+        ensures kept { Follows H.digest_of self.old self.new entry }
+        ensures unchanged { IfErr result (λ r. LeavesSupplied update self.old self.new r.0) }
     {
-        let (published, capacity) = (publisher.published(), board.capacity());
-        if let Err(fault) = may_install(&self.held, update.base, t, published, capacity) {
+        let t = entry.body.t;
+        if let Err(fault) = check_next(&self.held, update.base, t) {
             return Err((fault, update));
+        }
+        if make_room(&mut self.held, &update).is_err() {
+            return Err((InstallFault::OutOfMemory, update));
         }
         if supply_all(&mut self.source, &update.records).is_err() {
             return Err((InstallFault::OutOfMemory, update));
         }
-        self.install(update, t, signer, publisher, board)
+        enter(&mut self.held, &self.h, update, t, entry, link);
+        Ok(())
+    }
+
+    /// Supplies the indices of an update's names, and installs the update with its entry, which was signed elsewhere.
+    ///
+    /// The update contains the indices. A name is registered from then on, and keeps its index. The call does not verify
+    /// the signature, and publishes no head.
+    ///
+    /// The update was prepared from this directory, and the entry's body is the one that `next_body` returns. Unless an
+    /// epoch was installed since then, the source still gives each registered name the index that it had.
+    ///
+    /// # Errors
+    ///
+    /// If several apply, the first in this order is returned, with the update. After an error nothing is installed.
+    ///
+    /// - `Stale` if an epoch was installed after the update was prepared.
+    /// - `EpochNotLater` if the entry's epoch is not later than the latest one, or is 0 before the first.
+    /// - `OutOfMemory` if an allocation fails. The indices of the update's first names may then be supplied, and the same
+    ///   update can be installed again.
+    pub fn install_supplied(
+        &mut self,
+        update: Prepared,
+        entry: Entry,
+    ) -> Result<(), (InstallFault, Prepared)>
+        requires { IsNextEntry H.digest_of self.old update entry }
+        ensures installed { OnOk result (AddsSupplied H.digest_of self.old self.new update entry.body.t entry) }
+        ensures outcome { IsNextResult self.old.state update entry.body.t result }
+        ensures same { KeepsIndices self.old self.new }
+        ensures kept { Follows H.digest_of self.old self.new entry }
+        ensures unchanged { IfErr result (λ r. LeavesSupplied update self.old self.new r.0) }
+    {
+        let link = link(&self.h, &entry);
+        self.install_next(update, entry, link)
+    }
+}
+
+impl Directory<Sha256Hash, SuppliedIndices> {
+    ghost use Rattle.coniks_directory.specs.Installs.{AddsSupplied, Follows, IsNextResult, IsNextEntry, KeepsIndices, LeavesSupplied};
+
+    /// Installs an update as `install_supplied` does, with an entry whose link was computed before. Hashes no entry.
+    ///
+    /// # Errors
+    ///
+    /// The errors of `install_supplied`, in the same order.
+    pub fn install_linked(
+        &mut self,
+        update: Prepared,
+        entry: LinkedEntry,
+    ) -> Result<(), (InstallFault, Prepared)>
+        requires { IsNextEntry ⟦<Sha256Hash as Hash32>⟧.digest_of self.old update entry }
+        ensures installed { OnOk result (AddsSupplied ⟦<Sha256Hash as Hash32>⟧.digest_of self.old self.new update entry.body.t entry) }
+        ensures outcome { IsNextResult self.old.state update entry.body.t result }
+        ensures same { KeepsIndices self.old self.new }
+        ensures kept { Follows ⟦<Sha256Hash as Hash32>⟧.digest_of self.old self.new entry }
+        ensures unchanged { IfErr result (λ r. LeavesSupplied update self.old self.new r.0) }
+    {
+        let link = entry.link();
+        self.install_next(update, entry.entry(), link)
     }
 }
 
@@ -290,55 +311,15 @@ impl<H: Hash32 + Sync, X: IndexSource> Directory<H, X> {
     /// none. A new name is registered at the index that comes with its operation, whatever index the source has for it.
     /// There are as many indices as operations.
     ///
+    /// The records of the update take the names and the keys of the operations, so that the call copies no key, and a name
+    /// only until it returns.
+    ///
     /// # Errors
     ///
     /// - `Batch` with the errors of `prepare` but `Workers` and `Depth`, in the same order. `OutOfMemory` can also replace
     ///   `OtherIndex`.
     /// - `OtherIndex` if a name is registered with another index; it contains the position of the first such operation.
     ///   An earlier operation's error comes first. So does an error of this operation that comes before `IndexClash`.
-    pub fn prepare_supplied<G: Gate + Sync, R: Threads + Sync>(
-        &self,
-        rt: &R,
-        batch: &SuppliedBatch<'_>,
-        parallelism: Parallelism,
-        gate: &G,
-    ) -> Result<Prepared, SuppliedBatchFault>
-        requires { length batch.now.ops.now ≡ length batch.now.indices.now }
-        ensures update { IfOk result
-            (IsUpdateBy (H.digest_of self.now.hash) (batch_index X.index_of self.now batch.now) self.now.state (nonce_bytes batch.now.nonce) batch.now.ops.now) }
-        ensures installable { IfOk result
-            (λ p. IsSuppliedUpdate (H.digest_of self.now.hash) (X.index_of self.now.index) self.now.state p (batch_index X.index_of self.now batch.now)) }
-        ensures indices { IfOk result (λ p. indices_of p ≡ indices_by (batch_index X.index_of self.now batch.now) (operations batch.now.ops.now)) }
-        ensures accepted { OnOk result
-            (IsAccepted (batch_index X.index_of self.now batch.now) (registry self.now) (operations batch.now.ops.now) parallelism.depth parallelism.workers) }
-        ensures within { OnOk result (IsWithin (indexed batch.now.ops.now batch.now.indices.now)) }
-        ensures faultless { OnOk result
-            (supplied_fault (X.index_of self.now.index) (registry self.now) (indexed batch.now.ops.now batch.now.indices.now) ≡ None) }
-        ensures refused { IfErr result
-            (IsSuppliedFault (X.index_of self.now.index) (registry self.now) (indexed batch.now.ops.now batch.now.indices.now)) }
-    {
-        if let Err(fault) = check_length(batch.ops) {
-            return Err(SuppliedBatchFault::Batch(fault));
-        }
-        let Ok(ops) = copies_of(self.alloc, batch.ops) else {
-            return Err(SuppliedBatchFault::Batch(BatchFault::OutOfMemory));
-        };
-        let build = Build {
-            rt,
-            parallelism,
-            gate,
-        };
-        self.prepared_with(&build, batch.nonce, ops, batch.indices)
-    }
-
-    /// Prepares a batch as `prepare_supplied` does, and takes its operations.
-    ///
-    /// The records of the update take the names and the keys, so that the call copies no key, and a name only until it
-    /// returns. There are as many indices as operations.
-    ///
-    /// # Errors
-    ///
-    /// The errors of `prepare_supplied`, in the same cases.
     pub fn prepare_owned<G: Gate + Sync, R: Threads + Sync>(
         &self,
         rt: &R,

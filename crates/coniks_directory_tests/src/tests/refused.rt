@@ -2,26 +2,27 @@
 //! that step is repeated. The call has the result that it has with ample memory, or returns its own `OutOfMemory`, and
 //! the same call then succeeds. Each test prints whether its call was refused.
 
-ghost use Rattle.std.specs.Prelude.{◌≡◌};
+ghost use Rattle.std.specs.Prelude.{◌≡◌, length};
 ghost use Rattle.coniks_directory_tests.specs.Letters.{index_of_letter};
-ghost use Rattle.coniks_directory.specs.Chain.{heads_of};
 ghost use Rattle.coniks_directory.specs.Supplied.{supplied_index};
 ghost use Rattle.coniks_directory.specs.SuppliedBatches.{IsSuppliedUpdate};
-ghost use Rattle.coniks_directory.specs.Updates.{IsUpdateOf};
+ghost use Rattle.coniks_directory.specs.Installs.{IsNextEntry};
+ghost use Rattle.coniks_directory.specs.Updates.{IsUpdate, IsUpdateOf};
 ghost use Rattle.coniks_proof.specs.Octets.{Octets};
 
 mod restore;
 
 use crate::tests::answers::{Told, asked};
-use crate::tests::clerk::{A, B, Clerk, Letters, Written, new_board, ops_of, stamping, with_clerk};
-use crate::tests::runs::{install_supplied_next, prepare_next, prepare_supplied_next, supply_next};
+use crate::tests::clerk::{A, B, Clerk, Letters, Written, ops_of, with_clerk};
+use crate::tests::runs::{install_supplied_next, prepare_next, prepare_owned_next, supply_next};
+use coniks_chain::{Entry, Signature};
 use coniks_directory::OpKind::{Change, Register};
 use coniks_directory::{
     BatchFault, CommitFault, Directory, IndexSource, InstallFault, LookupAtFault, LookupFault, Op,
-    Prepared, SuppliedBatch, SuppliedBatchFault, SuppliedIndices, SupplyFault,
+    OwnedBatch, Prepared, SuppliedBatchFault, SuppliedIndices, SupplyFault,
 };
 use coniks_proof::{Hash32, Head, Index, Nonce, Sha256Hash};
-use coniks_shared::{Board, Publisher};
+use coniks_shared::Publisher;
 use coniks_test_support::{NEW_NONCE, NONCE, POLICY, digest};
 use coniks_work::Parallelism;
 use std::alloc::Global;
@@ -241,16 +242,16 @@ mod lookup {
 fn look_up_at<R: Threads + Sync + Abort>(rt: &R, clerk: &mut Clerk) -> bool {
     second_epoch(rt, clerk, None, 1);
     let index = Letters.index(b"b");
-    let Some(fault) = clerk.directory.lookup_at(2, b"b", index).err() else {
+    let Some(fault) = clerk.directory.signed_lookup_at(2, b"b", index).err() else {
         return false;
     };
     assert!(rt; fault == LookupAtFault::OutOfMemory);
-    assert!(rt; clerk.directory.lookup_at(2, b"b", index).is_ok());
+    assert!(rt; clerk.directory.signed_lookup_at(2, b"b", index).is_ok());
     true
 }
 
 #[test]
-fn lookup_at(rt: HostRuntime) {
+fn signed_lookup_at(rt: HostRuntime) {
     tell(&rt, |clerk| look_up_at(&rt, clerk));
 }
 
@@ -274,7 +275,7 @@ fn supply(rt: HostRuntime) {
 
 /// Prepares a batch with its indices, and prepares it again if an allocation fails. Returns the update, and whether one
 /// failed.
-fn prepare_supplied_at_last<R: Threads + Sync + Abort>(
+fn prepare_owned_at_last<R: Threads + Sync + Abort>(
     rt: &R,
     alloc: Global,
     directory: &Directory<Sha256Hash, SuppliedIndices>,
@@ -282,24 +283,59 @@ fn prepare_supplied_at_last<R: Threads + Sync + Abort>(
     indices: &[Index],
 ) -> (Prepared, bool)
     ensures { (index : Octets → Octets)
-        × IsSuppliedUpdate (⟦<Sha256Hash as Hash32>⟧.digest_of directory.now.hash)
-        (supplied_index directory.now.index) directory.now.state result.0 index }
+        × IsSuppliedUpdate (⟦<Sha256Hash as Hash32>⟧.digest_of directory.now.hash) (supplied_index directory.now.index) directory.now.state result.0 index
+        × IsUpdate (⟦<Sha256Hash as Hash32>⟧.digest_of directory.now.hash) index directory.now.state result.0 }
 {
-    let ops = batch(rt, alloc, written);
-    assert!(rt; ops.len() == indices.len());
-    let batch = SuppliedBatch {
-        nonce: None,
-        ops: &ops,
-        indices,
-    };
-    match prepare_supplied_next(rt, directory, &batch, Parallelism::alone()) {
+    let batch = owned_batch(rt, alloc, written, indices);
+    match prepare_owned_next(rt, directory, batch, Parallelism::alone()) {
         Ok(update) => (update, false),
         Err(fault) => {
             let memory = SuppliedBatchFault::Batch(BatchFault::OutOfMemory);
             assert!(rt; fault == memory, "{fault}");
-            let again = prepare_supplied_next(rt, directory, &batch, Parallelism::alone());
+            let batch = owned_batch(rt, alloc, written, indices);
+            let again = prepare_owned_next(rt, directory, batch, Parallelism::alone());
             (again.expect(rt, "an update"), true)
         }
+    }
+}
+
+/// Returns a batch with these indices.
+fn owned_batch<R: Abort>(
+    rt: &R,
+    alloc: Global,
+    written: &[Written],
+    indices: &[Index],
+) -> OwnedBatch
+    ensures { length result.ops.items ≡ length result.indices.items }
+{
+    let ops = batch(rt, alloc, written);
+    let indices = match Vec::from_slice(alloc, indices) {
+        Ok(copied) => copied,
+        Err(_) => Vec::from_slice(alloc, indices).expect(rt, "memory"),
+    };
+    assert!(rt; ops.len() == indices.len());
+    OwnedBatch {
+        nonce: None,
+        ops,
+        indices,
+    }
+}
+
+/// Returns the signed entry of an update.
+fn next_entry(
+    directory: &Directory<Sha256Hash, SuppliedIndices>,
+    update: &Prepared,
+    t: u64,
+) -> Entry
+    requires { (index : Octets → Octets)
+        × IsSuppliedUpdate (⟦<Sha256Hash as Hash32>⟧.digest_of directory.now.hash) (supplied_index directory.now.index) directory.now.state update.now index
+        × IsUpdate (⟦<Sha256Hash as Hash32>⟧.digest_of directory.now.hash) index directory.now.state update.now }
+    ensures { IsNextEntry ⟦<Sha256Hash as Hash32>⟧.digest_of directory.now update.now result }
+{
+    let body = directory.next_body(update, t);
+    Entry {
+        body,
+        signature: Signature([0x55; 64]),
     }
 }
 
@@ -310,58 +346,54 @@ fn install_supplied_at_last(
     directory: &mut Directory<Sha256Hash, SuppliedIndices>,
     update: Prepared,
     t: u64,
-    publisher: &mut Publisher,
-    board: &Board,
 ) -> bool
-    requires update { (index : Octets → Octets)
-        × IsSuppliedUpdate (⟦<Sha256Hash as Hash32>⟧.digest_of directory.old.hash)
-        (supplied_index directory.old.index) directory.old.state update index }
-    requires table { publisher.old.table ≡ board.now.table }
-    requires heads { publisher.old.heads ≡ heads_of (⟦<Sha256Hash as Hash32>⟧.digest_of directory.old.hash) directory.old.state.chain }
-    ensures table { publisher.new.table ≡ publisher.old.table }
-    ensures heads { publisher.new.heads ≡ heads_of (⟦<Sha256Hash as Hash32>⟧.digest_of directory.new.hash) directory.new.state.chain }
+    requires { (index : Octets → Octets)
+        × IsSuppliedUpdate (⟦<Sha256Hash as Hash32>⟧.digest_of directory.old.hash) (supplied_index directory.old.index) directory.old.state update index
+        × IsUpdate (⟦<Sha256Hash as Hash32>⟧.digest_of directory.old.hash) index directory.old.state update }
 {
-    let mut signer = stamping();
-    let installed = install_supplied_next(directory, update, t, &mut signer, publisher, board);
+    let entry = next_entry(directory, &update, t);
+    let installed = install_supplied_next(directory, update, entry);
     let Err((fault, update)) = installed else {
         return false;
     };
     assert!(rt; fault == InstallFault::OutOfMemory, "{fault}");
-    let mut signer = stamping();
-    let installed = install_supplied_next(directory, update, t, &mut signer, publisher, board);
+    let installed = install_supplied_next(directory, update, entry);
     assert!(rt; installed.is_ok());
     true
+}
+
+/// Asserts that the latest epoch has this number, and its entry this link.
+fn latest_is<X: IndexSource>(
+    rt: &impl Abort,
+    directory: &Directory<Sha256Hash, X>,
+    epoch: u64,
+    link: &str,
+) {
+    assert!(rt; directory.latest_epoch() == epoch);
+    assert!(rt; directory.latest_link() == digest(link));
 }
 
 /// Prepares and installs two batches with their indices. Returns whether an allocation fails while the second is
 /// prepared, and whether one fails during its install.
 fn supplied_epochs<R: Threads + Sync + Abort>(rt: &R, alloc: Global) -> (bool, bool) {
-    let (board, mut publisher) = new_board(rt, alloc, 4);
     let source = SuppliedIndices::new(alloc);
     let mut directory = Directory::open(alloc, Sha256Hash, source, NONCE, POLICY);
     let [a, b, c, d] = [b"a", b"b", b"c", b"d"].map(|name| Letters.index(name));
-    let (first, _) = prepare_supplied_at_last(rt, alloc, &directory, &FIRST, &[a, b]);
-    install_supplied_at_last(rt, &mut directory, first, 1, &mut publisher, &board);
-    ends_with(rt, &publisher, 1, FIRST_LINK);
-    let second = prepare_supplied_at_last(rt, alloc, &directory, &MIXED, &[d, b, c]);
+    let (first, _) = prepare_owned_at_last(rt, alloc, &directory, &FIRST, &[a, b]);
+    install_supplied_at_last(rt, &mut directory, first, 1);
+    latest_is(rt, &directory, 1, FIRST_LINK);
+    let second = prepare_owned_at_last(rt, alloc, &directory, &MIXED, &[d, b, c]);
     let (second, in_prepare) = second;
     assert!(rt; second.new_nodes() == 7);
-    let in_install = install_supplied_at_last(
-        rt,
-        &mut directory,
-        second,
-        2,
-        &mut publisher,
-        &board,
-    );
-    ends_with(rt, &publisher, 2, MIXED_LINK);
+    let in_install = install_supplied_at_last(rt, &mut directory, second, 2);
+    latest_is(rt, &directory, 2, MIXED_LINK);
     assert!(rt; directory.source().count() == 4);
     (in_prepare, in_install)
 }
 
 /// If a batch is out of memory, it can be prepared again.
 #[test]
-fn prepare_supplied(rt: HostRuntime) {
+fn prepare_owned(rt: HostRuntime) {
     let (is_refused, _) = supplied_epochs(&rt, rt.alloc());
     write(&rt, is_refused);
 }

@@ -4,7 +4,7 @@ ghost use Rattle.std.specs.Prelude.{◌≡◌, ◌<◌, ◌-◌, ◌^◌, ◌++�
 ghost use Rattle.coniks_directory.specs.Batches.{operations};
 ghost use Rattle.coniks_directory.specs.Chain.{heads_of};
 ghost use Rattle.coniks_directory.specs.History.{root_at, shown_at};
-ghost use Rattle.coniks_directory.specs.Installs.{IsReady};
+ghost use Rattle.coniks_directory.specs.Installs.{IsNextEntry, IsReady};
 ghost use Rattle.coniks_directory.specs.Lookups.{IsAcceptedAt};
 ghost use Rattle.coniks_directory.specs.Runs.{Batch, IsPreparedOf, Run, Start, defined, restoring};
 ghost use Rattle.coniks_directory.specs.State.{State};
@@ -15,7 +15,7 @@ ghost use Rattle.coniks_directory.specs.Updates.{Grows, IsUpdateOf, registry_aft
 ghost use Rattle.coniks_proof.specs.Batches.{Operation};
 ghost use Rattle.coniks_proof.specs.Octets.{Octets};
 
-use crate::tests::clerk::{A, B, Clerk, Letters, Written, new_board, ops_of, with_clerk};
+use crate::tests::clerk::{A, B, Clerk, Letters, Written, ops_of, with_clerk};
 use coniks_chain::{Entry, Sign};
 use coniks_directory::OpKind::{Change, Register};
 use coniks_directory::laws::{
@@ -23,7 +23,7 @@ use coniks_directory::laws::{
 };
 use coniks_directory::{
     BatchFault, CommitFault, Directory, IndexSource, InstallFault, LookupFault, Op, OpFault,
-    Prepared, RestoreFault, Restoring, SuppliedBatch, SuppliedBatchFault, SuppliedIndices,
+    OwnedBatch, Prepared, RestoreFault, Restoring, SuppliedBatchFault, SuppliedIndices,
     SupplyFault, SupplyIndex,
 };
 use coniks_proof::{Digest, Hash32, Index, Nonce, Proof, Sha256Hash};
@@ -89,52 +89,44 @@ pub fn install_next<H: Hash32, X: IndexSource, S: Sign>(
     directory.install(update, t, signer, publisher, board)
 }
 
-/// Calls `prepare_supplied`. Any run can install the update later.
-pub fn prepare_supplied_next<H: Hash32 + Sync, X: IndexSource, R: Threads + Sync>(
+/// Calls `prepare_owned`. Any run can install the update later.
+pub fn prepare_owned_next<H: Hash32 + Sync, X: IndexSource, R: Threads + Sync>(
     rt: &R,
     directory: &Directory<H, X>,
-    batch: &SuppliedBatch<'_>,
+    batch: OwnedBatch,
     parallelism: Parallelism,
 ) -> Result<Prepared, SuppliedBatchFault>
-    requires { length batch.now.ops.now ≡ length batch.now.indices.now }
+    requires { length batch.ops.items ≡ length batch.indices.items }
     ensures prepared { IfOk result
         (IsPreparedOf (H.digest_of directory.now.hash)
-        (index_in (X.index_of directory.now.index) (registry directory.now) (indexed batch.now.ops.now batch.now.indices.now))
-        directory.now.state (option_map (λ (n : Nonce). n.0) batch.now.nonce) (operations batch.now.ops.now)
+        (index_in (X.index_of directory.now.index) (registry directory.now) (indexed batch.ops.items batch.indices.items))
+        directory.now.state (option_map (λ (n : Nonce). n.0) batch.nonce) (operations batch.ops.items)
         parallelism.depth parallelism.workers) }
     ensures installable { IfOk result (λ p. IsSuppliedUpdate (H.digest_of directory.now.hash) (X.index_of directory.now.index) directory.now.state p
-        (index_in (X.index_of directory.now.index) (registry directory.now) (indexed batch.now.ops.now batch.now.indices.now))) }
+        (index_in (X.index_of directory.now.index) (registry directory.now) (indexed batch.ops.items batch.indices.items))) }
 {
-    directory.prepare_supplied(rt, batch, parallelism, &Open)
+    directory.prepare_owned(rt, batch, parallelism, &Open)
 }
 
 /// Calls `install_supplied`, which adds one batch to a run, by the indices that the directory holds afterwards.
-pub fn install_supplied_next<H: Hash32, S: Sign>(
+pub fn install_supplied_next<H: Hash32>(
     directory: &mut Directory<H, SuppliedIndices>,
     update: Prepared,
-    t: u64,
-    signer: &mut S,
-    publisher: &mut Publisher,
-    board: &Board,
-) -> Result<Entry, (InstallFault, Prepared)>
-    requires update { (index : Octets → Octets)
-        × IsSuppliedUpdate (H.digest_of directory.old.hash) (supplied_index directory.old.index) directory.old.state update index }
-    requires ready { IsReady H.digest_of S.made_of S.refused_of directory.old signer.old publisher.old board.now }
+    entry: Entry,
+) -> Result<(), (InstallFault, Prepared)>
+    requires { IsNextEntry H.digest_of directory.old update entry }
     ensures run { OnOk result ((index : Octets → Octets) (start : Start)
         (batches : List Batch) (new_nonce : Option Octets) (ops : List Operation) (depth workers : ℕ)
         → Run (H.digest_of directory.old.hash) (supplied_index directory.old.index) start batches directory.old.state
         → IsSuppliedUpdate (H.digest_of directory.old.hash) (supplied_index directory.old.index) directory.old.state update index
         → IsPreparedOf (H.digest_of directory.old.hash) index directory.old.state new_nonce ops depth workers update
         → Run (H.digest_of directory.new.hash) (supplied_index directory.new.index) start
-        (batches ++ record { t = t; new_nonce = new_nonce; ops = ops } ∷ []) directory.new.state) }
-    ensures heads { publisher.new.heads ≡ heads_of (H.digest_of directory.new.hash) directory.new.state.chain }
-    ensures table { publisher.new.table ≡ publisher.old.table }
-    ensures still { IfErr result (λ r. (index : Octets → Octets)
-        × IsSuppliedUpdate (H.digest_of directory.new.hash) (supplied_index directory.new.index) directory.new.state r.1 index) }
+        (batches ++ record { t = entry.body.t; new_nonce = new_nonce; ops = ops } ∷ []) directory.new.state) }
+    ensures still { IfErr result (λ r. IsNextEntry H.digest_of directory.new r.1 entry) }
 {
     directories_grow();
     supplied_updates_stay();
-    directory.install_supplied(update, t, signer, publisher, board)
+    directory.install_supplied(update, entry)
 }
 
 /// Calls `supply`. A run remains one, by the indices that the directory holds afterwards.
@@ -179,17 +171,10 @@ pub fn finish_first<H: Hash32 + Sync + Drop, X: IndexSource + Drop, R: Threads +
     rt: &R,
     begun: Restoring<H, X>,
     parallelism: Parallelism,
-    publisher: &mut Publisher,
-    board: &Board,
 ) -> Result<Directory<H, X>, RestoreFault>
-    requires table { publisher.old.table ≡ board.now.table }
-    requires published { publisher.old.heads ≡ [] }
-    requires room { 0 < board.now.capacity }
-    ensures run { IfOk result (λ directory. Run (H.digest_of directory.hash) (X.index_of directory.index) (restoring begun.entry begun.ops) [] directory.state) }
-    ensures heads { IfOk result (λ directory. publisher.new.heads ≡ heads_of (H.digest_of directory.hash) directory.state.chain) }
-    ensures table { publisher.new.table ≡ publisher.old.table }
+    ensures { IfOk result (λ directory. Run (H.digest_of directory.hash) (X.index_of directory.index) (restoring begun.entry begun.ops) [] directory.state) }
 {
-    begun.finish(rt, parallelism, &Open, publisher, board)
+    begun.finish(rt, parallelism, &Open)
 }
 
 /// Calls `root_at`. After a run, the root is that of the directory that the run's batches define.
@@ -226,7 +211,8 @@ const ROOTS: [&str; 3] = [
     "cb7706ab8b0971df8477b71cdcbbb3c780e9f4247df8ba2c3dbca124ab3a7120",
 ];
 
-/// Restores the last epoch from bindings that come in two calls, in another order, with a refused call between them.
+/// Restores the last epoch from bindings that come in two calls, in another order, with a refused call and one of no binding
+/// beside them.
 fn restore<R: Threads + Sync + Abort>(rt: &R, clerk: &Clerk) {
     let entry = *clerk.directory.chain().last().expect(rt, "an entry");
     let begun = Restoring::new(clerk.alloc, Sha256Hash, Letters, entry);
@@ -235,6 +221,7 @@ fn restore<R: Threads + Sync + Abort>(rt: &R, clerk: &Clerk) {
     let unknown = BatchFault::At { position: 1, fault };
     let last: [Written; 2] = [(Register, b'b', b'l'), A];
     for (written, refused) in [
+        (&[][..], None),
         (&[C][..], None),
         (&[A, (Change, b'd', b'k')][..], Some(unknown)),
         (&last[..], None),
@@ -242,15 +229,7 @@ fn restore<R: Threads + Sync + Abort>(rt: &R, clerk: &Clerk) {
         let ops = ops_of(clerk.alloc, written).expect(rt, "operations");
         assert!(rt; begun.add(&ops).err() == refused);
     }
-    let (board, mut publisher) = new_board(rt, clerk.alloc, 1);
-    assert!(rt; board.capacity() == 1);
-    let again = finish_first(
-        rt,
-        begun,
-        Parallelism::nearest(2, 1),
-        &mut publisher,
-        &board,
-    );
+    let again = finish_first(rt, begun, Parallelism::nearest(2, 1));
     let again = again.expect(rt, "a directory");
     assert!(rt; again.chain() == [entry].as_slice());
     assert!(rt; root_of(&again, 5) == root_of(&clerk.directory, 5));

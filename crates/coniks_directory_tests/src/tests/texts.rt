@@ -75,12 +75,18 @@ fn texts_of_errors(rt: HostRuntime) {
         "the batch is refused: operation 1: the name is registered; the update is refused: the signer refused";
     are_shown(&rt, &commits, texts);
 
-    use RestoreFault::{NotLater, RootDiffers, Version};
+    use RestoreFault::{Malformed, NotLater, RootDiffers, Version};
     let texts =
-        "the entry's epoch isn't later than the one before it; the entry's version is neither 1 nor 2; the root of the bindings isn't the entry's; out of memory";
+        "the entry's epoch isn't later than the one before it; the entry's version is neither 1 nor 2; the epoch before the entry's is 0, and its previous link isn't 32 zero bytes; the root of the bindings isn't the entry's; out of memory";
     are_shown(
         &rt,
-        &[NotLater, Version, RootDiffers, RestoreFault::OutOfMemory],
+        &[
+            NotLater,
+            Version,
+            Malformed,
+            RootDiffers,
+            RestoreFault::OutOfMemory,
+        ],
         texts,
     );
 

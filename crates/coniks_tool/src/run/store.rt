@@ -1,15 +1,16 @@
 //! The directory that a script opens, the signer of its entries, and the board of its heads.
 
-ghost use Rattle.std.specs.Prelude.{◌≡◌, ◌++◌, ◌∷◌, [], List, Option, None, Some, IfErr, IfOk, OnErr, OnOk, option_map};
+ghost use Rattle.std.specs.Prelude.{◌≡◌, ◌⊎◌, ◌++◌, ◌∷◌, [], List, Option, None, Some, IfErr, IfOk, OnErr, OnOk, option_map};
 ghost use Rattle.coniks_proof.specs.Sha256.{sha256};
 ghost use Rattle.coniks_chain.specs.Entries.{link_preimage};
 ghost use Rattle.coniks_directory.specs.Batches.{fault_is, operations};
+ghost use Rattle.coniks_directory.specs.declared.batch.BatchFault.TheVariants.{OutOfMemory};
 ghost use Rattle.coniks_shared.specs.Boards.{BoardEnd};
 ghost use Rattle.coniks_json.specs.declared.fault.RunFault.TheVariants.{NoBoard};
 ghost use Rattle.coniks_tool.specs.Demo.{demo_index};
 ghost use Rattle.coniks_tool.specs.Limits.{most_epochs};
 ghost use Rattle.coniks_json.specs.Refusals.{Refusal as Why, already_open, not_open, refusal_of};
-ghost use Rattle.coniks_tool.specs.Refusals.{IsRefusedBy, refusal};
+ghost use Rattle.coniks_tool.specs.Refusals.{IsRefusedBy, lookup_refused_as, refusal};
 ghost use Rattle.coniks_tool.specs.ScriptReplies.{because, outcome_of};
 ghost use Rattle.coniks_tool.specs.Script.{batch_with, lookup_with, open_with, Installs};
 ghost use Rattle.coniks_tool.specs.Stores.{batch_of, opened_of, IsServed};
@@ -89,12 +90,11 @@ impl Service {
         committed
     }
 
-    /// Returns the link of the latest entry, which the last published head has.
-    fn latest_link(&self, publisher: &Publisher) -> Digest
-        requires { IsServed publisher.now self.now }
+    /// Returns the link of the latest entry.
+    fn latest_link(&self) -> Digest
         ensures { (earlier : List Entry) (entry : Entry) → self.now.directory.state.chain ≡ earlier ++ entry ∷ [] → result.0 ≡ sha256 (link_preimage entry) }
     {
-        self.directory.latest_link(publisher)
+        self.directory.latest_link()
     }
 
     /// Looks a name up at an epoch.
@@ -104,9 +104,7 @@ impl Service {
     {
         let found = match self.directory.signed_lookup(epoch, name.as_bytes()) {
             Ok(found) => found,
-            Err(LookupFault::UnknownEpoch) => return Ok(Reply::Refused(Refusal::UnknownEpoch)),
-            Err(LookupFault::NameLength) => return Ok(Reply::Refused(Refusal::NameLength)),
-            Err(LookupFault::OutOfMemory) => return Err(AllocError),
+            Err(fault) => return Ok(Reply::Refused(lookup_refusal(fault)?)),
         };
         // Read for the contract alone.
         let _chain = self.directory.chain();
@@ -115,10 +113,23 @@ impl Service {
     }
 }
 
+/// Returns why a lookup finds nothing.
+fn lookup_refusal(fault: LookupFault) -> Result<Refusal, AllocError>
+    ensures refusal { IfOk result (λ why. lookup_refused_as fault ≡ Some (refusal_of why)) }
+    ensures memory { OnErr result (fault ≡ LookupFault.OutOfMemory) }
+{
+    match fault {
+        LookupFault::UnknownEpoch => Ok(Refusal::UnknownEpoch),
+        LookupFault::NameLength => Ok(Refusal::NameLength),
+        LookupFault::OutOfMemory => Err(AllocError),
+    }
+}
+
 /// Returns why an update is not installed.
 fn install_refusal(fault: InstallFault) -> Result<Refusal, AllocError>
     requires { (why : Option Why) × IsRefusedBy why (CommitFault.Install fault) }
-    ensures { (why : Option Why) → IsRefusedBy why (CommitFault.Install fault) → IfOk result (λ told. why ≡ Some (refusal_of told)) }
+    ensures refusal { (why : Option Why) → IsRefusedBy why (CommitFault.Install fault) → IfOk result (λ told. why ≡ Some (refusal_of told)) }
+    ensures memory { OnErr result (fault ≡ InstallFault.OutOfMemory) }
 {
     match fault {
         InstallFault::EpochNotLater { latest } => Ok(Refusal::EpochNotLater { latest }),
@@ -131,7 +142,8 @@ fn install_refusal(fault: InstallFault) -> Result<Refusal, AllocError>
 /// Returns why a batch is not committed.
 fn commit_refusal(fault: CommitFault) -> Result<Refusal, AllocError>
     requires { (why : Option Why) × IsRefusedBy why fault }
-    ensures { (why : Option Why) → IsRefusedBy why fault → IfOk result (λ told. why ≡ Some (refusal_of told)) }
+    ensures refusal { (why : Option Why) → IsRefusedBy why fault → IfOk result (λ told. why ≡ Some (refusal_of told)) }
+    ensures memory { OnErr result ((fault ≡ CommitFault.Batch OutOfMemory) ⊎ (fault ≡ CommitFault.Install InstallFault.OutOfMemory)) }
 {
     match fault {
         CommitFault::Batch(fault) => batch_refusal(fault),
@@ -213,7 +225,7 @@ impl Store {
             return Ok(Reply::Refused(Refusal::NotOpen));
         };
         let committed = service.commit(rt, parallelism, batch, &mut self.publisher, &self.board);
-        let link = service.latest_link(&self.publisher);
+        let link = service.latest_link();
         self.opened = Some(service);
         let entry = match committed {
             Ok(entry) => entry,

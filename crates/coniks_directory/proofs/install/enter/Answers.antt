@@ -1,6 +1,8 @@
-use Rattle.std.proofs.Common.{arith, sym, subst}
-use Rattle.coniks_directory.proofs.Words.{IsEntered, Leaves, State, state_of}
+use Rattle.std.proofs.Common.{◌∙◌, ap, arith, length, sym, subst, List}
+use Rattle.coniks_chain.specs.declared.entry.Entry.{Entry}
+use Rattle.coniks_directory.proofs.Words.{IsEntered, Leaves, State, before_at, link_before, state_of}
 use Rattle.coniks_directory.specs.Installed.{Attached, IsAttached}
+use Rattle.coniks_directory.proofs.HeadLemmas.{link_of_last}
 use Rattle.coniks_directory.proofs.InstallLemmas.{attached_next, installed_is, left_next}
 use Rattle.coniks_directory.proofs.install.enter.Goals as goal
 
@@ -34,3 +36,10 @@ returns-clause-entered g c = λ s is index_of whole u after body.
     (left_next hash index_of (state_of held) whole p u c.args.t after c.args.entry body later.nodes root
     (attached_next hash index_of (state_of held) whole.held p u c.args.t c.args.entry later.nodes root (omega (arith, e.nodes)) e.older e.known (λ es stands. rw e.records at (e.shows es stands)))) in
     subst (λ (z : State). IsEntered hash z later p c.args.t c.args.entry) is entered index_of whole u after body
+
+pub returns-clause-linked : goal.returns-clause-linked
+returns-clause-linked g c =
+    let hash = g.H.Hash32.digest_of c.args.h.now in
+    let before = c.args.held.now.before in
+    c.requires.link
+    ∙ sym (ap (λ (chain : List Entry). link_before (before_at hash before chain (length chain))) c.put_entry.ensures ∙ link_of_last hash before c.args.held.now.chain.items c.args.entry)

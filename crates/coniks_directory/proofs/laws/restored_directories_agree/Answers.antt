@@ -1,7 +1,7 @@
 use Rattle.std.proofs.Common.{◌∙◌}
 use Rattle.coniks_directory.specs.Runs.{restoring}
 use Rattle.coniks_directory.proofs.AlikeLemmas.{accepted_same, bodies_same, epochs_same, first_same, keys_same, nodes_same, paths_same, roots_same, runs_same}
-use Rattle.coniks_directory.proofs.RestoreLemmas.{good_joined}
+use Rattle.coniks_directory.proofs.RestoreLemmas.{good_alone, good_joined}
 use Rattle.coniks_directory.proofs.RunLemmas.{history_by}
 use Rattle.coniks_directory.proofs.laws.restored_directories_agree.Goals as goal
 
@@ -36,3 +36,6 @@ returns-clause-runs c = λ hash index_of start batches more s r earlier shown en
 
 pub returns-clause-chains : goal.returns-clause-chains
 returns-clause-chains c = good_joined
+
+pub returns-clause-first : goal.returns-clause-first
+returns-clause-first c = good_alone

@@ -41,14 +41,14 @@ pub returns-clause-update : goal.returns-clause-update
 returns-clause-update g c =
     let e = c.in_ok-update.ensures in
     (first_built (g.H.Hash32.digest_of c.args.origin.now.h.now) (g.X.IndexSource.index_of c.args.origin.now.source.now) (state_of c.args.origin.now.held.now)
-    c.args.entry.now c.in_ok-update.update (registrations c.args.pending.records.items) c.requires.restoring.opened c.requires.restoring.begins e.base e.version e.nonce
+    c.args.entry.now c.in_ok-update.update (registrations c.args.pending.records.items) c.requires.restoring.opened c.requires.restoring.formed e.base e.version e.nonce
     (rw (e.nonce, e.part, e.records) (built_in g (goal.at.returns-clause-update g c).In_ok-part))).0
 
 pub returns-clause-registry : goal.returns-clause-registry
 returns-clause-registry g c =
     let e = c.in_ok-update.ensures in
     (first_built (g.H.Hash32.digest_of c.args.origin.now.h.now) (g.X.IndexSource.index_of c.args.origin.now.source.now) (state_of c.args.origin.now.held.now)
-    c.args.entry.now c.in_ok-update.update (registrations c.args.pending.records.items) c.requires.restoring.opened c.requires.restoring.begins e.base e.version e.nonce
+    c.args.entry.now c.in_ok-update.update (registrations c.args.pending.records.items) c.requires.restoring.opened c.requires.restoring.formed e.base e.version e.nonce
     (rw (e.nonce, e.part, e.records) (built_in g (goal.at.returns-clause-registry g c).In_ok-part))).1
 
 pub returns-clause-nodes : goal.returns-clause-nodes

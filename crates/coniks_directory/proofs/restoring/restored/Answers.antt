@@ -14,11 +14,14 @@ left_in g c =
     let ops = registrations c.args.pending.records.items in
     let u = c.in-Ok.ensures in
     let root = c.has_root.ensures.same c.if-not-has_root.false index_of u.update in
-    let first = first_of hash index_of (state_of c.args.held) c.in-Ok.update ops c.args.entry c.requires.begins u.version u.nonce u.registry root in
+    let first = first_of hash index_of (state_of c.args.held) c.in-Ok.update ops c.args.entry c.requires.formed u.version u.nonce u.registry root in
     c.in-Ok-enter_first.ensures.restored index_of ops c.requires.opened u.update first
 
-pub returns-in-Ok-enter_first-clause-whole : goal.returns-in-Ok-enter_first-clause-whole
-returns-in-Ok-enter_first-clause-whole g c = (left_in g (goal.at.returns-in-Ok-enter_first-clause-whole g c).In-Ok-enter_first).0
+pub returns-in-Ok-enter_first-clause-kept : goal.returns-in-Ok-enter_first-clause-kept
+returns-in-Ok-enter_first-clause-kept g c = record {
+  whole = (left_in g (goal.at.returns-in-Ok-enter_first-clause-kept g c).In-Ok-enter_first).0;
+  linked = c.in-Ok-enter_first.ensures.linked;
+}
 
 pub returns-in-Ok-enter_first-clause-restored : goal.returns-in-Ok-enter_first-clause-restored
 returns-in-Ok-enter_first-clause-restored g c = (left_in g (goal.at.returns-in-Ok-enter_first-clause-restored g c).In-Ok-enter_first).1

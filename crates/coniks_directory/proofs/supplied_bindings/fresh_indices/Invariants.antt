@@ -9,4 +9,4 @@ use Rattle.coniks_directory.proofs.supplied_bindings.fresh_indices.Given as goal
 abbrev pub invariant-loop-place : goal.invariant-loop-place
 invariant-loop-place l = (hash : Octets → Octets) (bound : List Registered)
     → ArePendingRecords hash (supplied_index l.source) bound l.pending.records.items l.pending.numbers
-    → IsFresh bound l.fresh (named_in (take l.place (indexed l.batch.bindings.now l.batch.indices.now)))
+    → IsFresh bound l.fresh (named_in (take l.place (indexed l.bindings l.indices)))

@@ -2,13 +2,12 @@
 
 ghost use Rattle.std.specs.Prelude.{◌≡◌, length};
 
-use crate::tests::clerk::{Clerk, Letters, new_board};
+use crate::tests::clerk::{Clerk, Letters};
 use crate::tests::refused::{FIRST, batch, first_epoch, tell};
 use crate::tests::runs::finish_first;
 use coniks_chain::Entry;
 use coniks_directory::{
-    BatchFault, BindingsFault, IndexSource, RestoreFault, Restoring, SuppliedBindings,
-    SuppliedIndices,
+    BatchFault, BindingsFault, IndexSource, OwnedBindings, RestoreFault, Restoring, SuppliedIndices,
 };
 use coniks_proof::Sha256Hash;
 use coniks_work::Parallelism;
@@ -16,17 +15,21 @@ use std::alloc::Global;
 use std::process::Abort;
 use std::thread::Threads;
 
-/// Lists the two bindings, and lists them again if an allocation fails. Returns whether one failed.
+/// Lists the two bindings by a page of any number, and lists them again if an allocation fails. Returns whether one failed.
 fn list_at_last(rt: &impl Abort, clerk: &Clerk) -> bool {
-    let Some(fault) = clerk.directory.bindings(1, None, 9).err() else {
-        return false;
+    let fault = match clerk.directory.bindings(1, None, usize::MAX) {
+        Ok(page) => {
+            assert!(rt; page.len() == FIRST.len());
+            return false;
+        }
+        Err(fault) => fault,
     };
     assert!(rt; fault == BindingsFault::OutOfMemory, "{fault}");
-    assert!(rt; clerk.directory.bindings(1, None, 9).is_ok());
+    assert!(rt; clerk.directory.bindings(1, None, usize::MAX).is_ok());
     true
 }
 
-/// A page returns `OutOfMemory` if an allocation fails.
+/// A page of any number of bindings returns all of them, or `OutOfMemory` if an allocation fails.
 #[test]
 fn page(rt: HostRuntime) {
     tell(&rt, |clerk| {
@@ -52,6 +55,20 @@ fn begun_at_last(
     }
 }
 
+/// Returns the two bindings with their indices.
+fn first_bindings(rt: &impl Abort, alloc: Global) -> OwnedBindings
+    ensures { length result.bindings.items ≡ length result.indices.items }
+{
+    let bindings = batch(rt, alloc, &FIRST);
+    let letters = [b"a", b"b"].map(|name| Letters.index(name));
+    let indices = match Vec::from_slice(alloc, &letters) {
+        Ok(indices) => indices,
+        Err(_) => Vec::from_slice(alloc, &letters).expect(rt, "memory"),
+    };
+    assert!(rt; bindings.len() == indices.len());
+    OwnedBindings { bindings, indices }
+}
+
 /// Adds the two bindings, and adds them again if an allocation fails. Returns whether one failed. Some of the indices can
 /// be stored by then.
 fn add_at_last(
@@ -59,18 +76,11 @@ fn add_at_last(
     alloc: Global,
     begun: &mut Restoring<Sha256Hash, SuppliedIndices>,
 ) -> bool {
-    let bindings = batch(rt, alloc, &FIRST);
-    let indices = [b"a", b"b"].map(|name| Letters.index(name));
-    assert!(rt; bindings.len() == indices.len());
-    let supplied = SuppliedBindings {
-        bindings: &bindings,
-        indices: &indices,
-    };
-    let Err(fault) = begun.add_supplied(&supplied) else {
+    let Err(fault) = begun.add_supplied(first_bindings(rt, alloc)) else {
         return false;
     };
     assert!(rt; fault == BatchFault::OutOfMemory, "{fault}");
-    assert!(rt; begun.add_supplied(&supplied).is_ok());
+    assert!(rt; begun.add_supplied(first_bindings(rt, alloc)).is_ok());
     true
 }
 
@@ -79,23 +89,18 @@ fn add_at_last(
 fn restore_at_last<R: Threads + Sync + Abort>(rt: &R, clerk: &mut Clerk) -> (bool, bool) {
     first_epoch(rt, clerk);
     let entry = *clerk.directory.chain().last().expect(rt, "an entry");
-    let (board, mut publisher) = new_board(rt, clerk.alloc, 4);
-    assert!(rt; board.capacity() == 4);
     let mut begun = begun_at_last(rt, clerk.alloc, entry);
     let in_add = add_at_last(rt, clerk.alloc, &mut begun);
-    let again = finish_first(
-        rt,
-        begun,
-        Parallelism::nearest(2, 1),
-        &mut publisher,
-        &board,
-    );
-    let Err(fault) = again else {
-        assert!(rt; publisher.last() == clerk.publisher.last());
-        return (in_add, false);
-    };
-    assert!(rt; fault == RestoreFault::OutOfMemory, "{fault}");
-    (in_add, true)
+    match finish_first(rt, begun, Parallelism::nearest(2, 1)) {
+        Ok(again) => {
+            assert!(rt; again.latest_link() == clerk.directory.latest_link());
+            (in_add, false)
+        }
+        Err(fault) => {
+            assert!(rt; fault == RestoreFault::OutOfMemory, "{fault}");
+            (in_add, true)
+        }
+    }
 }
 
 /// If bindings are out of memory, they can be added again.

@@ -12,7 +12,7 @@ use Rattle.coniks_directory.proofs.directory.Directory.install.Goals as goal
 fresh_in : (g : given.Over) (c : In_default g) → IsUpdate (g.H.Hash32.digest_of c.self.inside.h) (g.X.IndexSource.index_of c.self.inside.source) (state_of c.self.inside.held) c.args.update
 fresh_in g c =
     let d = c.self.inside in
-    fresh (g.H.Hash32.digest_of d.h) (g.X.IndexSource.index_of d.source) (state_of d.held) c.args.update (rw (← c.self.view_is) at c.requires.update) c.in_default.ensures.ok.fresh
+    fresh (g.H.Hash32.digest_of d.h) (g.X.IndexSource.index_of d.source) (state_of d.held) c.args.update (rw (← c.self.view_is) at c.requires.update) c.in_default.ensures.ok.next.fresh
 
 pub signed-requires-clause-fits : goal.signed-requires-clause-fits
 signed-requires-clause-fits g c = (fresh_in g (goal.at.signed-requires-clause-fits g c).In_default).fits
@@ -39,9 +39,8 @@ returns-in-Err-signed-clause-unasked g c =
     let index_of = g.X.IndexSource.index_of d.source in
     let s = state_of d.held in
     let u = fresh_in g (goal.at.returns-in-Err-signed-clause-unasked g c).In_default in
-    let linked = c.last_link-previous.ensures hash d.held.before d.held.chain.items (rw (← c.self.view_is) at c.requires.ready.published) c.self.invariant.begun in
     rw (← c.self.view_is) (c.in-Err-signed.ensures.unasked (body_of hash index_of s.policy (before_at hash s.before s.chain (length s.chain)) (shown_after s c.args.update c.args.t))
-    (λ body signed. signed index_of c.self.invariant u linked))
+    (λ body signed. signed index_of c.self.invariant.whole u))
 
 pub enter-requires-clause-fits : goal.enter-requires-clause-fits
 enter-requires-clause-fits g c =
@@ -54,9 +53,8 @@ body_in g c =
     let d = c.self.inside in
     let hash = g.H.Hash32.digest_of d.h in
     let index_of = g.X.IndexSource.index_of d.source in
-    let u = fresh hash index_of (state_of d.held) c.args.update (rw (← c.self.view_is) at c.requires.update) c.in_default.ensures.ok.fresh in
-    let linked = c.last_link-previous.ensures hash d.held.before d.held.chain.items (rw (← c.self.view_is) at c.requires.ready.published) c.self.invariant.begun in
-    c.in-Ok.ensures.body index_of c.self.invariant u linked
+    let u = fresh hash index_of (state_of d.held) c.args.update (rw (← c.self.view_is) at c.requires.update) c.in_default.ensures.ok.next.fresh in
+    c.in-Ok.ensures.body index_of c.self.invariant.whole u
 
 -- the state that is left is that of an install
 left_in : (g : given.Over) (c : goal.After-put_head g) → (let d = c.self.inside in
@@ -65,14 +63,14 @@ left_in g c =
     let d = c.self.inside in
     let hash = g.H.Hash32.digest_of d.h in
     let index_of = g.X.IndexSource.index_of d.source in
-    let u = fresh hash index_of (state_of d.held) c.args.update (rw (← c.self.view_is) at c.requires.update) c.in_default.ensures.ok.fresh in
-    c.enter.ensures.entered (state_of d.held) c.signed.ensures.same index_of c.self.invariant u c.in_default.ensures.ok.later (body_in g c)
+    let u = fresh hash index_of (state_of d.held) c.args.update (rw (← c.self.view_is) at c.requires.update) c.in_default.ensures.ok.next.fresh in
+    c.enter.ensures.entered (state_of d.held) c.signed.ensures.same index_of c.self.invariant.whole u c.in_default.ensures.ok.next.later (body_in g c)
 
 chain_in : (g : given.Over) (c : goal.After-put_head g) → c.enter.new.held.chain.items ≡ c.self.inside.held.chain.items ++ c.in-Ok.entry ∷ []
 chain_in g c = c.enter.ensures.last ∙ ap (λ (s : State). s.chain ++ c.in-Ok.entry ∷ []) c.signed.ensures.same
 
 pub invariant_of-self : goal.invariant_of-self
-invariant_of-self g c = (left_in g c).whole
+invariant_of-self g c = record { whole = (left_in g c).whole; linked = c.enter.ensures.linked }
 
 pub returns-in-Ok-clause-installed : goal.returns-in-Ok-clause-installed
 returns-in-Ok-clause-installed g c =
@@ -89,7 +87,7 @@ returns-in-Ok-clause-kept g c =
     let verdict = g.S.Verify.verdict_of c.args.signer.now in
     let now = g.S.Verify.verdict_of c.signed.new.signer in
     let published = published_next (g.H.Hash32.digest_of d.h) c.args.publisher.now c.put_head.new.publisher d.held.chain.items c.enter.new.held.chain.items c.in-Ok.entry c.head_of.result
-    (rw (← c.self.view_is) at c.requires.ready.published) c.put_head.ensures c.head_of.ensures (chain_in g c) in
+    (rw (← c.self.view_is) at c.requires.ready.published) c.put_head.ensures (c.head_of.ensures (g.H.Hash32.digest_of d.h) c.link-link.ensures) (chain_in g c) in
     rw (← c.self.view_is) (record {
       grows = (left_in g c).grows;
       good = (left_in g c).good verdict now c.signed.ensures.verdicts_kept c.in-Ok.ensures.signed.verdict;

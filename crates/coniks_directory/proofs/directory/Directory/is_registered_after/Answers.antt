@@ -12,7 +12,7 @@ returns-then-is_registered g c =
     rw (← c.self.view_is)
     (c.if-is_registered.true
     ∙ sym (leaves_name (g.H.Hash32.digest_of d.h) (g.X.IndexSource.index_of d.source) (state_of d.held)
-    p name c.self.invariant ∙ ap (λ v. v || has_name (map registered_of p.records.items) name) there))
+    p name c.self.invariant.whole ∙ ap (λ v. v || has_name (map registered_of p.records.items) name) there))
 
 pub returns-else-is_registered : goal.returns-else-is_registered
 returns-else-is_registered g c =
@@ -23,4 +23,4 @@ returns-else-is_registered g c =
     rw (← c.self.view_is)
     (c.binds.ensures
     ∙ sym (leaves_name (g.H.Hash32.digest_of d.h) (g.X.IndexSource.index_of d.source) (state_of d.held)
-    p name c.self.invariant ∙ ap (λ v. v || has_name (map registered_of p.records.items) name) gone))
+    p name c.self.invariant.whole ∙ ap (λ v. v || has_name (map registered_of p.records.items) name) gone))

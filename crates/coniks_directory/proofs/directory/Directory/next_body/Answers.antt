@@ -9,5 +9,4 @@ returns g c = λ index agree update.
     let s = state_of d.held in
     let agree' = rw (← c.self.view_is) at agree in
     let update' = rw (← c.self.view_is) at update in
-    let linked = c.last_link.ensures hash d.held.before d.held.chain.items (rw (← c.self.view_is) at c.requires.published) c.self.invariant.begun in
-    rw (← c.self.view_is) (c.make_body.ensures index (whole_agree hash (g.X.IndexSource.index_of d.source) index s agree' c.self.invariant) update' linked)
+    rw (← c.self.view_is) (c.make_body.ensures index (whole_agree hash (g.X.IndexSource.index_of d.source) index s agree' c.self.invariant.whole) update')

@@ -35,7 +35,7 @@ whole_in g c =
     let registry = latest_registry (history_of s) in
     let batch = indexed c.args.ops.items c.args.supplied.now in
     subst (λ (f : List ℕ → List ℕ). Whole hash f s) (sym (rw (← c.self.view_is) at (rw c.deref-2.ensures.value at c.in-Ok.ensures.indices)))
-    (whole_agree hash index_of (index_in index_of registry batch) s (given_agree registry index_of batch) c.self.invariant)
+    (whole_agree hash index_of (index_in index_of registry batch) s (given_agree registry index_of batch) c.self.invariant.whole)
 
 pub fault_or_other-requires : goal.fault_or_other-requires
 fault_or_other-requires g c = rw (← c.self.view_is) (whole_in g (goal.at.fault_or_other-requires g c).In-Ok)

@@ -10,18 +10,18 @@ use Rattle.coniks_directory.proofs.directory.Directory.signed_lookup_at.Goals as
 pub returns-in_default-clause-missed : goal.returns-in_default-clause-missed
 returns-in_default-clause-missed g c =
     let d = c.self.inside in
-    rw (← c.self.view_is) (c.in_default.ensures (g.H.Hash32.digest_of d.h) (g.X.IndexSource.index_of d.source) c.self.invariant)
+    rw (← c.self.view_is) (c.in_default.ensures (g.H.Hash32.digest_of d.h) (g.X.IndexSource.index_of d.source) c.self.invariant.whole)
 
 pub returns-then-not-is_name-clause-missed : goal.returns-then-not-is_name-clause-missed
 returns-then-not-is_name-clause-missed g c =
     let d = c.self.inside in
-    let found = c.in-Some.ensures (g.H.Hash32.digest_of d.h) (g.X.IndexSource.index_of d.source) c.self.invariant in
+    let found = c.in-Some.ensures (g.H.Hash32.digest_of d.h) (g.X.IndexSource.index_of d.source) c.self.invariant.whole in
     rw (← c.self.view_is) (ap is_some found.shown, sym c.if-not-is_name.ensures.value)
 
 pub path-requires : goal.path-requires
 path-requires g c =
     let d = c.self.inside in
-    (c.in-Some.ensures (g.H.Hash32.digest_of d.h) (g.X.IndexSource.index_of d.source) c.self.invariant).holds.known
+    (c.in-Some.ensures (g.H.Hash32.digest_of d.h) (g.X.IndexSource.index_of d.source) c.self.invariant.whole).holds.known
 
 -- the directory is one with the function that has the supplied index
 whole_in : (g : given.Over) (c : goal.In-Ok g) → (index_of : List ℕ → List ℕ)
@@ -29,7 +29,7 @@ whole_in : (g : given.Over) (c : goal.In-Ok g) → (index_of : List ℕ → List
     → Whole (g.H.Hash32.digest_of c.self.inside.h) index_of (state_of c.self.inside.held)
 whole_in g c index_of agree =
     let d = c.self.inside in
-    whole_agree (g.H.Hash32.digest_of d.h) (g.X.IndexSource.index_of d.source) index_of (state_of d.held) agree c.self.invariant
+    whole_agree (g.H.Hash32.digest_of d.h) (g.X.IndexSource.index_of d.source) index_of (state_of d.held) agree c.self.invariant.whole
 
 -- the path is that of the index in the tree of the epoch's registry
 path_in : (g : given.Over) (c : goal.In-Ok g) → (let hash = g.H.Hash32.digest_of c.self.inside.h in (index_of : List ℕ → List ℕ)
@@ -46,7 +46,7 @@ path_in g c index_of agree at =
 pub returns-in-Ok-clause-entry : goal.returns-in-Ok-clause-entry
 returns-in-Ok-clause-entry g c =
     let d = c.self.inside in
-    rw (← c.self.view_is) (c.in-Some.ensures (g.H.Hash32.digest_of d.h) (g.X.IndexSource.index_of d.source) c.self.invariant).signed
+    rw (← c.self.view_is) (c.in-Some.ensures (g.H.Hash32.digest_of d.h) (g.X.IndexSource.index_of d.source) c.self.invariant.whole).signed
 
 pub returns-in-Ok-clause-ok : goal.returns-in-Ok-clause-ok
 returns-in-Ok-clause-ok g c = λ index_of suits.
@@ -68,13 +68,13 @@ returns-in-Ok-clause-accepted g c = λ index_of suits.
 pub returns-in-Err-clause-missed : goal.returns-in-Err-clause-missed
 returns-in-Err-clause-missed g c =
     let d = c.self.inside in
-    let found = c.in-Some.ensures (g.H.Hash32.digest_of d.h) (g.X.IndexSource.index_of d.source) c.self.invariant in
+    let found = c.in-Some.ensures (g.H.Hash32.digest_of d.h) (g.X.IndexSource.index_of d.source) c.self.invariant.whole in
     let kept = rw (← c.self.view_is) at c.if-has_other_index.ensures.no refl in
     rw (← c.self.view_is) (ap is_some found.shown, record { sized = sym c.if-not-is_name.ensures.value; kept = kept })
 
 pub returns-then-has_other_index-clause-missed : goal.returns-then-has_other_index-clause-missed
 returns-then-has_other_index-clause-missed g c =
     let d = c.self.inside in
-    let found = c.in-Some.ensures (g.H.Hash32.digest_of d.h) (g.X.IndexSource.index_of d.source) c.self.invariant in
+    let found = c.in-Some.ensures (g.H.Hash32.digest_of d.h) (g.X.IndexSource.index_of d.source) c.self.invariant.whole in
     let other = rw (← c.self.view_is) at c.if-has_other_index.ensures.yes refl in
     rw (← c.self.view_is) (ap is_some found.shown, sym c.if-not-is_name.ensures.value, other)

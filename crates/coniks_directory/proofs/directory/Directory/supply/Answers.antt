@@ -24,7 +24,10 @@ agree_in g c =
 pub invariant_of-self-2 : goal.invariant_of-self-2
 invariant_of-self-2 g c =
     let d = c.self.inside in
-    whole_agree (g.H.Hash32.digest_of d.h) (g.X.IndexSource.index_of d.source) (g.X.IndexSource.index_of c.supply.new.self) (state_of d.held) (agree_in g c) c.self.invariant
+    record {
+      whole = whole_agree (g.H.Hash32.digest_of d.h) (g.X.IndexSource.index_of d.source) (g.X.IndexSource.index_of c.supply.new.self) (state_of d.held) (agree_in g c) c.self.invariant.whole;
+      linked = c.self.invariant.linked;
+    }
 
 pub returns-clause-agree : goal.returns-clause-agree
 returns-clause-agree g c = rw (← c.self.view_is) (agree_in g c)

@@ -6,7 +6,7 @@ use Rattle.coniks_directory.specs.SuppliedBatches.{binding_index, indices_by, in
 use Rattle.coniks_directory.specs.declared.pending.PendingRecords.{PendingRecords}
 use Rattle.coniks_directory.proofs.PendingLemmas.{by_records}
 use Rattle.coniks_directory.proofs.RestoreLemmas.{at_view, bound_registrations, view_is}
-use Rattle.coniks_directory.proofs.RestoreIndexLemmas.{left_ops, long_enough, more_ops, rest_indices, restoring_less, restoring_more, some_kept}
+use Rattle.coniks_directory.proofs.RestoreIndexLemmas.{first_indices, left_ops, long_enough, more_ops, rest_indices, restoring_less, restoring_more, some_kept}
 use Rattle.coniks_directory.proofs.directory.restoring.Restoring+H+SuppliedIndices.add_supplied.Goals.{After-from_residual, In-Ok, In_default}
 use Rattle.coniks_directory.proofs.directory.restoring.Restoring+H+SuppliedIndices.add_supplied.Given as given
 use Rattle.coniks_directory.proofs.directory.restoring.Restoring+H+SuppliedIndices.add_supplied.Goals as goal
@@ -29,7 +29,7 @@ invariant_of-self g c =
     let index_of = supplied_index r.source in
     let i = c.self.invariant in
     record {
-      begins = i.begins;
+      formed = i.formed;
       opened = i.opened;
       pending = by_records (g.H.Hash32.digest_of r.h) index_of _ _ _ (kept_pending g c);
       faultless = ap (first_fault index_of []) (kept_ops g c) ∙ i.faultless;
@@ -39,8 +39,8 @@ pub returns-in_err-judge_bindings-clause-refused : goal.returns-in_err-judge_bin
 returns-in_err-judge_bindings-clause-refused g c =
     let r = c.self.inside in
     let bound = map registered_of r.pending.records.items in
-    let batch = c.args.batch.now in
-    let ops = operations batch.bindings.now in
+    let batch = c.args.batch in
+    let ops = operations batch.bindings.items in
     let is : c.from_residual.result ≡ Err c.in_err-judge_bindings.field-0.0 = search rules in
     rw is (at_view (λ xs bs. IsJudgedFaultAfter (binding_index (supplied_index xs) bs batch) [] bs ops c.in_err-judge_bindings.field-0.0) _ _ bound
     c.self.view_is (bound_registrations bound) (c.in_err-judge_bindings.ensures.fault (g.H.Hash32.digest_of r.h) bound c.self.invariant.pending))
@@ -49,6 +49,11 @@ pub returns-in_err-judge_bindings-clause-unchanged : goal.returns-in_err-judge_b
 returns-in_err-judge_bindings-clause-unchanged g c =
     let is : c.from_residual.result ≡ Err c.in_err-judge_bindings.field-0.0 = search rules in
     rw is (kept_ops g c ∙ ap (λ v. v.ops) c.self.view_is)
+
+pub returns-in_err-judge_bindings-clause-stored : goal.returns-in_err-judge_bindings-clause-stored
+returns-in_err-judge_bindings-clause-stored g c =
+    let is : c.from_residual.result ≡ Err c.in_err-judge_bindings.field-0.0 = search rules in
+    rw is (0, ap (λ v. v.index) c.self.view_is)
 
 pub returns-in_err-judge_bindings-clause-whole : goal.returns-in_err-judge_bindings-clause-whole
 returns-in_err-judge_bindings-clause-whole g c = λ position fault at.
@@ -65,7 +70,7 @@ supply_since-requires g c =
     let new = c.judge_bindings.new.pending in
     let p = c.in_ok-judge_bindings.ensures.pending hash (map registered_of old) c.self.invariant.pending in
     rw c.count-earlier.ensures
-    (long_enough hash r.source c.args.batch.now r.entry (state_of r.held) old new.records.items _ new.numbers (operations c.args.batch.now.bindings.now) c.self.invariant p)
+    (long_enough hash r.source c.args.batch r.entry (state_of r.held) old new.records.items _ new.numbers (operations c.args.batch.bindings.items) c.self.invariant p)
 
 some_in : (g : given.Over) (c : In_default g) → (let new = c.judge_bindings.new.pending.records.items in let r = c.self.inside in
     (n : ℕ) × (c.supply_since.new.source ≡ put_indices r.source (indices_in (take n (drop (length r.pending.records.items) new)))))
@@ -80,8 +85,8 @@ invariant_of-self-in_default g c =
     let hash = g.H.Hash32.digest_of r.h in
     let old = r.pending.records.items in
     let bound = map registered_of old in
-    let batch = c.args.batch.now in
-    let ops = operations batch.bindings.now in
+    let batch = c.args.batch in
+    let ops = operations batch.bindings.items in
     let new = c.judge_bindings.new.pending in
     let left = c.supply_since.new.pending in
     let p = c.in_ok-judge_bindings.ensures.pending hash bound c.self.invariant.pending in
@@ -96,8 +101,8 @@ returns-in_default-clause-unchanged g c =
     let hash = g.H.Hash32.digest_of r.h in
     let old = r.pending.records.items in
     let bound = map registered_of old in
-    let batch = c.args.batch.now in
-    let ops = operations batch.bindings.now in
+    let batch = c.args.batch in
+    let ops = operations batch.bindings.items in
     let new = c.judge_bindings.new.pending in
     let left = c.supply_since.new.pending in
     let p = c.in_ok-judge_bindings.ensures.pending hash bound c.self.invariant.pending in
@@ -111,8 +116,8 @@ returns-in_default-clause-kept g c =
     let hash = g.H.Hash32.digest_of r.h in
     let old = r.pending.records.items in
     let bound = map registered_of old in
-    let batch = c.args.batch.now in
-    let ops = operations batch.bindings.now in
+    let batch = c.args.batch in
+    let ops = operations batch.bindings.items in
     let new = c.judge_bindings.new.pending in
     let left = c.supply_since.new.pending in
     let p = c.in_ok-judge_bindings.ensures.pending hash bound c.self.invariant.pending in
@@ -121,6 +126,21 @@ returns-in_default-clause-kept g c =
     (subst (λ (ys : List Supplied). AgreeOn (supplied_index r.source) (supplied_index ys) bound) (sym some.1)
     (some_kept hash r.source batch r.entry (state_of r.held) old new.records.items _ new.numbers ops c.self.invariant p left.records.items left.numbers some.0 (left_in g c)
     (c.in_default.ensures.pending hash (binding_index (supplied_index r.source) bound batch) (bound ++ map bound_by ops) p)))
+
+pub returns-in_default-clause-stored : goal.returns-in_default-clause-stored
+returns-in_default-clause-stored g c =
+    let r = c.self.inside in
+    let hash = g.H.Hash32.digest_of r.h in
+    let old = r.pending.records.items in
+    let bound = map registered_of old in
+    let batch = c.args.batch in
+    let ops = operations batch.bindings.items in
+    let new = c.judge_bindings.new.pending in
+    let p = c.in_ok-judge_bindings.ensures.pending hash bound c.self.invariant.pending in
+    let some = some_in g c in
+    at_view (λ xs bs. (n : ℕ) × (c.supply_since.new.source ≡ put_indices xs (take n (indices_by (binding_index (supplied_index xs) bs batch) ops))))
+    _ _ bound c.self.view_is (bound_registrations bound)
+    (some.0, some.1 ∙ ap (put_indices r.source) (first_indices hash r.source batch r.entry (state_of r.held) old new.records.items _ new.numbers ops c.self.invariant p some.0))
 
 put_in : (g : given.Over) (c : In-Ok g) → (let r = c.self.inside in
     c.supply_since.new.source ≡ put_indices r.source (indices_in (drop (length r.pending.records.items) c.judge_bindings.new.pending.records.items)))
@@ -137,7 +157,7 @@ invariant_of-self-2 g c =
     let none = c.in_ok-judge_bindings.ensures.faultless hash bound c.self.invariant.pending in
     subst (λ (q : PendingRecords). IsRestoring hash (supplied_index c.supply_since.new.source) r.entry (state_of r.held) q.records.items q.numbers) (sym c.in-Ok.ensures.same)
     (subst (λ (xs : List Supplied). IsRestoring hash (supplied_index xs) r.entry (state_of r.held) new.records.items new.numbers) (sym (put_in g c))
-    (restoring_more hash r.source c.args.batch.now r.entry (state_of r.held) old new.records.items _ new.numbers (operations c.args.batch.now.bindings.now) c.self.invariant p none))
+    (restoring_more hash r.source c.args.batch r.entry (state_of r.held) old new.records.items _ new.numbers (operations c.args.batch.bindings.items) c.self.invariant p none))
 
 pub returns-clause-added : goal.returns-clause-added
 returns-clause-added g c =
@@ -145,20 +165,20 @@ returns-clause-added g c =
     let hash = g.H.Hash32.digest_of r.h in
     let old = r.pending.records.items in
     let bound = map registered_of old in
-    let ops = operations c.args.batch.now.bindings.now in
+    let ops = operations c.args.batch.bindings.items in
     let new = c.judge_bindings.new.pending in
     let p = c.in_ok-judge_bindings.ensures.pending hash bound c.self.invariant.pending in
     let none = c.in_ok-judge_bindings.ensures.faultless hash bound c.self.invariant.pending in
     ap (λ (q : PendingRecords). registrations q.records.items) c.in-Ok.ensures.same
-    ∙ more_ops hash r.source c.args.batch.now r.entry (state_of r.held) old new.records.items _ new.numbers ops c.self.invariant p none
+    ∙ more_ops hash r.source c.args.batch r.entry (state_of r.held) old new.records.items _ new.numbers ops c.self.invariant p none
     ∙ ap (λ v. v.ops ++ ops) c.self.view_is
 
 pub returns-clause-accepted : goal.returns-clause-accepted
 returns-clause-accepted g c =
     let r = c.self.inside in
     let bound = map registered_of r.pending.records.items in
-    let batch = c.args.batch.now in
-    let ops = operations batch.bindings.now in
+    let batch = c.args.batch in
+    let ops = operations batch.bindings.items in
     at_view (λ xs bs. fault_from (binding_index (supplied_index xs) bs batch) [] bs 0 ops ≡ None) _ _ bound
     c.self.view_is (bound_registrations bound) (c.in_ok-judge_bindings.ensures.faultless (g.H.Hash32.digest_of r.h) bound c.self.invariant.pending)
 
@@ -168,8 +188,8 @@ returns-clause-indices g c =
     let hash = g.H.Hash32.digest_of r.h in
     let old = r.pending.records.items in
     let bound = map registered_of old in
-    let batch = c.args.batch.now in
-    let ops = operations batch.bindings.now in
+    let batch = c.args.batch in
+    let ops = operations batch.bindings.items in
     let new = c.judge_bindings.new.pending in
     let p = c.in_ok-judge_bindings.ensures.pending hash bound c.self.invariant.pending in
     at_view (λ xs bs. c.supply_since.new.source ≡ put_indices xs (indices_by (binding_index (supplied_index xs) bs batch) ops)) _ _ bound c.self.view_is (bound_registrations bound)

@@ -24,7 +24,7 @@ invariant_of-self-2 g c =
     let i = c.self.invariant in
     let s = c.in_ok-judge_copies.ensures.pending hash (map registered_of old) i.pending in
     record {
-      begins = i.begins;
+      formed = i.formed;
       opened = i.opened;
       pending = by_records hash index_of _ _ _ s;
       faultless = added_faultless hash index_of old new.records.items new.numbers (operations c.args.bindings.now) s i.faultless

@@ -11,8 +11,8 @@ invariant_of-result g c =
     let index_of = g.X.IndexSource.index_of c.args.source in
     let s = c.in-Ok.ensures hash index_of in
     record {
-      begins = c.in_ok-check_entry.ensures.begins;
-      opened = c.new-held.ensures;
+      formed = c.in_ok-check_entry.ensures.formed;
+      opened = c.new-held.ensures.opened;
       pending = by_records hash index_of [] _ _ s;
       faultless = ap (λ (bs : List Registered). first_fault index_of [] (map registration bs)) s.binds;
     }

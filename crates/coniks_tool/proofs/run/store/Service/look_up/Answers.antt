@@ -2,23 +2,19 @@ use Rattle.std.proofs.Common.{◌≡◌, ap, subst, sym, ◌∙◌, Option, None
 use Rattle.coniks_chain.specs.declared.auditor.AuditorState.{AuditorState}
 use Rattle.coniks_directory.specs.Chain.{IsChainOf}
 use Rattle.coniks_proof.specs.Sha256.{sha256}
+use Rattle.coniks_json.specs.Refusals.{refusal_of}
 use Rattle.coniks_tool.specs.Chains.{chain_of}
 use Rattle.coniks_tool.specs.Demo.{demo_index}
 use Rattle.coniks_tool.specs.Seal.{is_seal}
 use Rattle.coniks_tool.specs.Stores.{opened_of}
-use Rattle.coniks_tool.proofs.FoundLemmas.{found_there, missed_epoch, missed_length}
+use Rattle.coniks_tool.proofs.FoundLemmas.{found_there, missed_is}
 use Rattle.coniks_tool.proofs.SealedLemmas.{chain_is}
 use Rattle.coniks_tool.proofs.run.store.Service.look_up.Goals as goal
 
-pub returns-in-Err-UnknownEpoch : goal.returns-in-Err-UnknownEpoch
-returns-in-Err-UnknownEpoch c =
-    missed_epoch (opened_of c.args.self.now) c.args.epoch c.args.name.now c.as_bytes.result.now c.as_bytes.ensures.value
-    c.in-Err-UnknownEpoch.field-0 c.in-Err-UnknownEpoch.field-0-is c.in-Err-UnknownEpoch.ensures.missed
-
-pub returns-in-Err-NameLength : goal.returns-in-Err-NameLength
-returns-in-Err-NameLength c =
-    missed_length (opened_of c.args.self.now) c.args.epoch c.args.name.now c.as_bytes.result.now
-    c.as_bytes.ensures.value c.in-Err-NameLength.field-0 c.in-Err-NameLength.field-0-is c.in-Err-NameLength.ensures.missed
+pub returns-in-Err : goal.returns-in-Err
+returns-in-Err c =
+    missed_is (opened_of c.args.self.now) c.args.epoch c.args.name.now c.as_bytes.result.now c.as_bytes.ensures.value c.in-Err.fault
+    (refusal_of c.in_ok-lookup_refusal-in-Err.field-0) c.in-Err.ensures.missed c.in_ok-lookup_refusal-in-Err.ensures.refusal
 
 pub returns : goal.returns
 returns c =

@@ -19,7 +19,7 @@ refused_in g c =
     let b = batch_of c.args.batch in
     let same : c.args.self.now ≡ Some o = shown_open c.self.inside.opened c.in-Some.service c.args.self.now c.in-Some.ensures.value c.self.view_is in
     refused_turn o b c.args.self.now (refusal_of c.in_ok-commit_refusal-in-Err.field-0) same
-    (c.in_ok-commit_refusal-in-Err.ensures (refusal (demo_index o.key) o.history b.t b.ops) c.in-Err.ensures.refused)
+    (c.in_ok-commit_refusal-in-Err.ensures.refusal (refusal (demo_index o.key) o.history b.t b.ops) c.in-Err.ensures.refused)
 
 pub returns-in-Err-clause-reply : goal.returns-in-Err-clause-reply
 returns-in-Err-clause-reply g c = sym (ap (λ (t : ScriptTurn). t.outcome) (refused_in g c))
