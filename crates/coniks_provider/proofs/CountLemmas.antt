@@ -28,11 +28,12 @@ use Rattle.coniks_json.specs.Members.{array_in, digits_in, if_there, number_in, 
 use Rattle.coniks_json.specs.Turns.{refused}
 use Rattle.coniks_json.specs.Refusals.{not_json}
 use Rattle.coniks_provider.specs.Answers.{ProviderOutcome, because}
+use Rattle.coniks_provider.specs.Claims.{Claim, agrees, claim_in, log_in}
 use Rattle.coniks_provider.specs.Lines.{batch_in}
-use Rattle.coniks_provider.specs.Turns.{BatchLine, ProviderDirectory, Pending, ProviderTurn, ProviderState, Restore, nothing, restoring, serving}
-use Rattle.coniks_provider.specs.Turns.{batch_read_turn, bindings_read_turn, entry_refusal, index_for, install_on, install_turn, install_with, installed_with, prepare_on, prepare_turn, prepare_with}
-use Rattle.coniks_provider.specs.Turns.{provider_answer, provider_command_turn, provider_open_turn, provider_open_with, provider_refusal, provider_turn, restore_and, restore_from, restore_turn, restore_with}
-use Rattle.coniks_provider.specs.Turns.{restored_directory, restored_turn, restoring_index, restoring_on, restoring_refusal, restoring_turn, restoring_with, root_of_bindings}
+use Rattle.coniks_provider.specs.Turns.{BatchLine, Claims, ProviderDirectory, Pending, ProviderTurn, ProviderState, Restore, nothing, restoring, serving}
+use Rattle.coniks_provider.specs.Turns.{batch_read_turn, bindings_read_turn, entry_refusal, index_for, install_on, install_turn, install_with, installed_with, line_refusal, link_by, prepare_on, prepare_turn, prepare_with}
+use Rattle.coniks_provider.specs.Turns.{claims_in, provider_answer, provider_command_turn, provider_open_turn, provider_open_with, provider_turn, restore_and, restore_from, restore_turn, restore_with}
+use Rattle.coniks_provider.specs.Turns.{restored_directory, restored_turn, restoring_index, restoring_on, restoring_refusal, restoring_turn, restoring_with, root_of_bindings, withdraw_on, withdraw_turn}
 use Rattle.coniks_provider.specs.declared.operations.Elements.TheVariants.{Operations, Bindings}
 use Rattle.coniks_provider.proofs.RefusedLemmas.{either}
 
@@ -268,15 +269,16 @@ Counted nothing = Unit {0}
 Counted (restoring r) = IsBegun r
 Counted (serving o) = IsCounted o
 
-open_with-counted : (s : ProviderState) (nonce policy : List ℕ) → Counted s → Counted (provider_open_with s nonce policy).state
-open_with-counted nothing nonce policy was = record { names = λ name. refl; sorted = tt; once = tt; pending = tt }
-open_with-counted (restoring r) nonce policy was = was
-open_with-counted (serving o) nonce policy was = was
+open_with-counted : (s : ProviderState) (logged : Bool) (nonce policy : List ℕ) → Counted s → Counted (provider_open_with s logged nonce policy).state
+open_with-counted nothing logged nonce policy was = record { names = λ name. refl; sorted = tt; once = tt; pending = tt }
+open_with-counted (restoring r) logged nonce policy was = was
+open_with-counted (serving o) logged nonce policy was = was
 
-open-counted : (s : ProviderState) (nonce policy : Option (List ℕ)) → Counted s → Counted (provider_open_turn s nonce policy).state
-open-counted s None _ was = was
-open-counted s (Some nonce) None was = was
-open-counted s (Some nonce) (Some policy) was = open_with-counted s nonce policy was
+open-counted : (s : ProviderState) (nonce policy : Option (List ℕ)) (logged : Option Bool) → Counted s → Counted (provider_open_turn s nonce policy logged).state
+open-counted s None _ _ was = was
+open-counted s (Some nonce) None _ was = was
+open-counted s (Some nonce) (Some policy) None was = was
+open-counted s (Some nonce) (Some policy) (Some logged) was = open_with-counted s logged nonce policy was
 
 prepare_on-counted : (o : ProviderDirectory) (b : BatchLine) (why : Option ProviderOutcome) → IsCounted o → Counted (prepare_on o b why).state
 prepare_on-counted o b (Some why) was = was
@@ -290,17 +292,17 @@ prepare_on-counted o b None was = record {
 prepare_with-counted : (s : ProviderState) (b : BatchLine) → Counted s → Counted (prepare_with s b).state
 prepare_with-counted nothing b was = was
 prepare_with-counted (restoring r) b was = was
-prepare_with-counted (serving o) b was = prepare_on-counted o b (provider_refusal o b) was
+prepare_with-counted (serving o) b was = prepare_on-counted o b (line_refusal o b) was
 
-batch_read-counted : (s : ProviderState) (epoch : ℕ) (new_nonce : Option (List ℕ)) (ops : Result (List Indexed) ℕ) → Counted s → Counted (batch_read_turn s epoch new_nonce ops).state
-batch_read-counted s epoch new_nonce (Err place) was = was
-batch_read-counted s epoch new_nonce (Ok ops) was = prepare_with-counted s (record { epoch = epoch; new_nonce = new_nonce; ops = ops }) was
+batch_read-counted : (s : ProviderState) (epoch : ℕ) (new_nonce : Option (List ℕ)) (claims : Claims) (ops : Result (List Indexed) ℕ) → Counted s → Counted (batch_read_turn s epoch new_nonce claims ops).state
+batch_read-counted s epoch new_nonce claims (Err place) was = was
+batch_read-counted s epoch new_nonce claims (Ok ops) was = prepare_with-counted s (record { epoch = epoch; new_nonce = new_nonce; ops = ops; claims = claims }) was
 
-prepare-counted : (s : ProviderState) (epoch : Option ℕ) (new_nonce : Option (Option (List ℕ))) (items : Option Items) → Counted s → Counted (prepare_turn s epoch new_nonce items).state
-prepare-counted s None _ _ was = was
-prepare-counted s (Some epoch) None _ was = was
-prepare-counted s (Some epoch) (Some new_nonce) None was = was
-prepare-counted s (Some epoch) (Some new_nonce) (Some items) was = batch_read-counted s epoch new_nonce (batch_in Operations items) was
+prepare-counted : (s : ProviderState) (epoch : Option ℕ) (new_nonce : Option (Option (List ℕ))) (items : Option Items) (claims : Claims) → Counted s → Counted (prepare_turn s epoch new_nonce items claims).state
+prepare-counted s None _ _ claims was = was
+prepare-counted s (Some epoch) None _ claims was = was
+prepare-counted s (Some epoch) (Some new_nonce) None claims was = was
+prepare-counted s (Some epoch) (Some new_nonce) (Some items) claims was = batch_read-counted s epoch new_nonce claims (batch_in Operations items) was
 
 latest_end : (history : List Shown) (shown : Shown) → latest_registry (history ++ shown ∷ []) ≡ shown.registry
 latest_end [] shown = refl
@@ -322,32 +324,43 @@ installed-counted o p signature was batch =
       pending = tt;
     }
 
-install_on-counted : (o : ProviderDirectory) (signature : List ℕ) (pending : Option Pending) → IsCounted o
-    → IfSome pending (IsOfBatch (latest_registry o.history)) → Counted (install_on o signature pending).state
-install_on-counted o signature None was batch = was
-install_on-counted o signature (Some p) was batch = installed-counted o p signature was batch
+install_on-counted : (o : ProviderDirectory) (signature : List ℕ) (link : Claim) (pending : Option Pending) → IsCounted o
+    → IfSome pending (IsOfBatch (latest_registry o.history)) → Counted (install_on o signature link pending).state
+install_on-counted o signature link None was batch = was
+install_on-counted o signature link (Some p) was batch =
+    either (λ (t : ProviderTurn). Counted t.state) (agrees link (link_by p signature)) _ _ (installed-counted o p signature was batch) was
 
-install_with-counted : (s : ProviderState) (signature : List ℕ) → Counted s → Counted (install_with s signature).state
-install_with-counted nothing signature was = was
-install_with-counted (restoring r) signature was = was
-install_with-counted (serving o) signature was = install_on-counted o signature o.pending was was.pending
+install_with-counted : (s : ProviderState) (signature : List ℕ) (link : Claim) → Counted s → Counted (install_with s signature link).state
+install_with-counted nothing signature link was = was
+install_with-counted (restoring r) signature link was = was
+install_with-counted (serving o) signature link was = install_on-counted o signature link o.pending was was.pending
 
-install-counted : (s : ProviderState) (signature : Option (List ℕ)) → Counted s → Counted (install_turn s signature).state
-install-counted s None was = was
-install-counted s (Some signature) was = install_with-counted s signature was
+install-counted : (s : ProviderState) (signature : Option (List ℕ)) (link : Claim) → Counted s → Counted (install_turn s signature link).state
+install-counted s None link was = was
+install-counted s (Some signature) link was = install_with-counted s signature link was
 
-restore_from-counted : (entry : Entry) (why : Option ProviderOutcome) → Counted (restore_from entry why).state
-restore_from-counted entry (Some why) = tt
-restore_from-counted entry None = record { names = λ name. refl; sorted = tt }
+withdraw_on-counted : (o : ProviderDirectory) (pending : Option Pending) → IsCounted o → Counted (withdraw_on o pending).state
+withdraw_on-counted o None was = was
+withdraw_on-counted o (Some p) was = record { names = was.names; sorted = was.sorted; once = was.once; pending = tt }
 
-restore_with-counted : (s : ProviderState) (entry : Entry) → Counted s → Counted (restore_with s entry).state
-restore_with-counted nothing entry was = restore_from-counted entry (entry_refusal entry)
-restore_with-counted (restoring r) entry was = was
-restore_with-counted (serving o) entry was = was
+withdraw-counted : (s : ProviderState) → Counted s → Counted (withdraw_turn s).state
+withdraw-counted nothing was = was
+withdraw-counted (restoring r) was = was
+withdraw-counted (serving o) was = withdraw_on-counted o o.pending was
 
-restore-counted : (s : ProviderState) (entry : Option Entry) → Counted s → Counted (restore_turn s entry).state
-restore-counted s None was = was
-restore-counted s (Some entry) was = restore_with-counted s entry was
+restore_from-counted : (logged : Bool) (entry : Entry) (why : Option ProviderOutcome) → Counted (restore_from logged entry why).state
+restore_from-counted logged entry (Some why) = tt
+restore_from-counted logged entry None = record { names = λ name. refl; sorted = tt }
+
+restore_with-counted : (s : ProviderState) (logged : Bool) (entry : Entry) → Counted s → Counted (restore_with s logged entry).state
+restore_with-counted nothing logged entry was = restore_from-counted logged entry (entry_refusal entry)
+restore_with-counted (restoring r) logged entry was = was
+restore_with-counted (serving o) logged entry was = was
+
+restore-counted : (s : ProviderState) (entry : Option Entry) (logged : Option Bool) → Counted s → Counted (restore_turn s entry logged).state
+restore-counted s None _ was = was
+restore-counted s (Some entry) None was = was
+restore-counted s (Some entry) (Some logged) was = restore_with-counted s logged entry was
 
 after-append : (registry : Registry) (ops more : List Operation) → after registry (ops ++ more) ≡ after (after registry ops) more
 after-append registry [] more = refl
@@ -398,16 +411,17 @@ restored-counted (serving o) was = was
 command-counted : (s : ProviderState) (d : Data) (name : Option (List ℕ)) → Counted s → Counted (provider_command_turn s d name).state
 command-counted s d None was = was
 command-counted s d (Some name) was =
-    either (λ (t : ProviderTurn). Counted t.state) (bytes_eq name (codes "open")) _ _ (open-counted s (digits_in 32 (codes "nonce") d) (digits_in 32 (codes "policy") d) was)
+    either (λ (t : ProviderTurn). Counted t.state) (bytes_eq name (codes "open")) _ _ (open-counted s (digits_in 32 (codes "nonce") d) (digits_in 32 (codes "policy") d) (log_in d) was)
     (either (λ (t : ProviderTurn). Counted t.state) (bytes_eq name (codes "prepare")) _ _
-    (prepare-counted s (number_in (codes "epoch") d) (if_there (codes "nonce") d (digits_in 32 (codes "nonce") d)) (array_in (codes "ops") d) was)
-    (either (λ (t : ProviderTurn). Counted t.state) (bytes_eq name (codes "install")) _ _ (install-counted s (digits_in 64 (codes "signature") d) was)
+    (prepare-counted s (number_in (codes "epoch") d) (if_there (codes "nonce") d (digits_in 32 (codes "nonce") d)) (array_in (codes "ops") d) (claims_in d) was)
+    (either (λ (t : ProviderTurn). Counted t.state) (bytes_eq name (codes "install")) _ _ (install-counted s (digits_in 64 (codes "signature") d) (claim_in 32 (codes "link") d) was)
+    (either (λ (t : ProviderTurn). Counted t.state) (bytes_eq name (codes "withdraw")) _ _ (withdraw-counted s was)
     (either (λ (t : ProviderTurn). Counted t.state) (bytes_eq name (codes "lookup")) _ _ was
     (either (λ (t : ProviderTurn). Counted t.state) (bytes_eq name (codes "latest")) _ _ was
     (either (λ (t : ProviderTurn). Counted t.state) (bytes_eq name (codes "bindings")) _ _ was
-    (either (λ (t : ProviderTurn). Counted t.state) (bytes_eq name (codes "restore")) _ _ (restore-counted s (entry_in d) was)
+    (either (λ (t : ProviderTurn). Counted t.state) (bytes_eq name (codes "restore")) _ _ (restore-counted s (entry_in d) (log_in d) was)
     (either (λ (t : ProviderTurn). Counted t.state) (bytes_eq name (codes "restoring")) _ _ (restoring-counted s (array_in (codes "bindings") d) was)
-    (either (λ (t : ProviderTurn). Counted t.state) (bytes_eq name (codes "restored")) _ _ (restored-counted s was) was))))))))
+    (either (λ (t : ProviderTurn). Counted t.state) (bytes_eq name (codes "restored")) _ _ (restored-counted s was) was)))))))))
 
 object-counted : (s : ProviderState) (d : Option Data) → Counted s → Counted (option_map_or (λ x. provider_command_turn s x (text_in (codes "cmd") x)) d (refused s (because not_json))).state
 object-counted s None was = was

@@ -18,7 +18,7 @@ after found (Ok xs) = Ok (found ++ xs)
 after found (Err place) = Err place
 
 -- the rest from a place is the value there, followed by the rest after it
-here : (vs : List Value) (i : ℕ) (v : Value) → i < length vs → v ≡ get_or vs i v → items_view (drop i vs) ≡ item (view v) (items_view (drop (i + 1) vs))
+pub here : (vs : List Value) (i : ℕ) (v : Value) → i < length vs → v ≡ get_or vs i v → items_view (drop i vs) ≡ item (view v) (items_view (drop (i + 1) vs))
 here vs i v lt is =
     let split : drop i vs ≡ v ∷ drop (i + 1) vs = drop-cons vs i v lt ∙ ap₂ (λ (x : Value) (k : ℕ). x ∷ drop k vs) (sym is) (sym (add-one i)) in
     ap items_view split

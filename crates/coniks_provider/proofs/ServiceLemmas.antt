@@ -1,5 +1,5 @@
 -- The results of an opened directory, in the terms of its definitions.
-use Rattle.std.proofs.Common.{◌≡◌, ◌<◌, ◌≤◌, ◌+◌, ℕ, List, [], ◌∷◌, ◌++◌, length, true, false, refl, ap, subst, ◌∙◌, arith, Option, Some, None, if◌then◌else◌}
+use Rattle.std.proofs.Common.{◌≡◌, ◌<◌, ◌≤◌, ◌+◌, ℕ, List, [], ◌∷◌, ◌++◌, length, Bool, true, false, refl, ap, subst, ◌∙◌, arith, Option, Some, None, if◌then◌else◌}
 use Rattle.std.specs.Prelude.{is_some, nat_le, nat_lt, not, ◌&&◌, option_map}
 use Rattle.std.specs.Str.{bytes_eq}
 use Rattle.std.proofs.lemmas.Bool.{false≢true}
@@ -11,14 +11,12 @@ use Rattle.coniks_proof.specs.Hashing.{hashing}
 use Rattle.coniks_proof.specs.Registry.{entries_of, has_name}
 use Rattle.coniks_proof.specs.Sha256.{sha256}
 use Rattle.coniks_proof.specs.declared.paths.Proof.{Proof}
-use Rattle.coniks_proof.specs.declared.values.Head.{Head}
 use Rattle.coniks_proof.specs.declared.values.Index.{Index}
 use Rattle.coniks_proof.specs.declared.values.TheConstants.{MAX_NAME, MAX_OPERATIONS}
 use Rattle.coniks_chain.specs.Entries.{link_preimage, signed}
 use Rattle.coniks_chain.specs.declared.entry.Body.{Body}
 use Rattle.coniks_chain.specs.declared.entry.Entry.{Entry}
 use Rattle.coniks_directory.specs.Batches.{operation_of, operations}
-use Rattle.coniks_directory.specs.Chain.{head_at, heads_of}
 use Rattle.coniks_directory.specs.History.{Shown, latest_epoch, latest_registry, shown_at}
 use Rattle.coniks_directory.specs.Lookups.{IsFound}
 use Rattle.coniks_directory.specs.State.{history_of}
@@ -30,23 +28,18 @@ use Rattle.coniks_directory.specs.declared.batch.Op.{Op}
 use Rattle.coniks_directory.specs.declared.supplied_batch.SuppliedBatchFault.{SuppliedBatchFault}
 use Rattle.coniks_directory.specs.declared.supplied_batch.SuppliedBatchFault.TheVariants.{Batch as OfBatch, OtherIndex}
 use Rattle.coniks_directory.specs.declared.update.Prepared.{Prepared}
-use Rattle.coniks_json.specs.Refusals.{bad_name_length, board_full, epoch_not_later, unknown_epoch}
+use Rattle.coniks_json.specs.Refusals.{bad_name_length, epoch_not_later, unknown_epoch}
 use Rattle.coniks_json.specs.Paths.{path_of, path_to}
 use Rattle.coniks_json.proofs.Lemmas.{path_is}
-use Rattle.coniks_provider.specs.Answers.{ProviderOutcome, bad_index, because, installed, looked_up, prepared}
-use Rattle.coniks_provider.specs.Limits.{most_provider_epochs}
+use Rattle.coniks_json.specs.Turns.{refused}
+use Rattle.coniks_chain.specs.Entries.{body_bytes}
+use Rattle.coniks_provider.specs.Answers.{ProviderOutcome, bad_index, because, installed, looked_up, not_abandoned, prepared, replay_differs}
+use Rattle.coniks_provider.specs.Claims.{Claim, agrees}
 use Rattle.coniks_provider.specs.Stores.{DirectoryView, IsSuppliedRefusable, provided_by, pending_of, supplied_refused_as}
-use Rattle.coniks_provider.specs.Turns.{BatchLine, ProviderDirectory, Pending, install_on, prepare_on, chain_entry_at, has_other_index, index_with, provider_lookup_at, provider_lookup_with, provider_number_refusal, pending_by, provider_refusal, epoch_next, serving}
+use Rattle.coniks_provider.specs.Turns.{BatchLine, ProviderDirectory, Pending, install_on, installed_with, line_refusal, link_by, may_replace, prepare_on, chain_entry_at, has_other_index, index_with, provider_lookup_at, provider_lookup_with, provider_number_refusal, pending_by, provider_refusal, epoch_next, serving}
 use Rattle.coniks_provider.specs.declared.service.Pending.{Pending as Update}
 
 -- ---- lists
-
-pub as_many : (heads : List Head) (chain : List Entry) → heads ≡ heads_of sha256 chain → length heads ≡ length chain
-as_many heads chain same = ap length same ∙ length-map chain (head_at sha256)
-
--- one more is no more than the board takes, if it was not full
-pub room_after : (n m : ℕ) → m ≡ n + 1 → n ≤ 65536 → (n ≡ 65536 → ⊥) → m ≤ 65536
-room_after n m next most apart = grind (arith, nat_tests)
 
 pub indexed_operations : (ops : List Op) (indices : List Index) → length ops ≡ length indices → operations_of (indexed ops indices) ≡ operations ops
 indexed_operations [] indices same = refl
@@ -86,17 +79,17 @@ module _ (o : ProviderDirectory) (b : BatchLine) where
 -- ---- updates
 
 -- the epoch that an update makes is that of its batch
-pub shown_is : {H : Type 0} (d : DirectoryView H) (pending : Option Update) (b : BatchLine) (p : Prepared)
+pub shown_is : {H : Type 0} (logged : Bool) (d : DirectoryView H) (pending : Option Update) (b : BatchLine) (p : Prepared)
     → RotatesTo d.state b.new_nonce p → registry_after d.state p ≡ after (latest_registry (history_of d.state)) (operations_of b.ops)
-    → shown_after d.state p b.epoch ≡ epoch_next (provided_by d pending) b
-shown_is {H} d pending b p rotates registry = rw (rotates.version, rotates.nonce, registry) refl
+    → shown_after d.state p b.epoch ≡ epoch_next (provided_by logged d pending) b
+shown_is {H} logged d pending b p rotates registry = rw (rotates.version, rotates.nonce, registry) refl
 
 -- ---- lookups
 
 -- the indices with one more agree on the registry
-pub agree_with : {H : Type 0} (d : DirectoryView H) (pending : Option Update) (name index : List ℕ) → MaySupply (supplied_index d.index) (latest_registry (history_of d.state)) name index
-    → AgreeOn (supplied_index d.index) (index_with (provided_by d pending) name index) (latest_registry (history_of d.state))
-agree_with {H} d pending name index may other has = (elim (bytes_eq other name) as (λ b. bytes_eq other name ≡ b → supplied_index d.index other ≡ (if b then index else supplied_index d.index other)) [
+pub agree_with : {H : Type 0} (logged : Bool) (d : DirectoryView H) (pending : Option Update) (name index : List ℕ) → MaySupply (supplied_index d.index) (latest_registry (history_of d.state)) name index
+    → AgreeOn (supplied_index d.index) (index_with (provided_by logged d pending) name index) (latest_registry (history_of d.state))
+agree_with {H} logged d pending name index may other has = (elim (bytes_eq other name) as (λ b. bytes_eq other name ≡ b → supplied_index d.index other ≡ (if b then index else supplied_index d.index other)) [
   | true ↦ λ on. let same = (bytes_eq-Decides other name).0 on in ap (supplied_index d.index) same ∙ may.kept (subst (λ n. has_name (latest_registry (history_of d.state)) n ≡ true) same has)
   | false ↦ λ off. refl
 ]) refl
@@ -147,26 +140,20 @@ module _ (o : ProviderDirectory) (epoch : ℕ) (name index : List ℕ) where
 
 -- ---- an update that was prepared
 
--- a number that isn't refused is later, and the board has room
-pub number_none : (o : ProviderDirectory) (epoch : ℕ) → provider_number_refusal o epoch ≡ None → (latest_epoch o.history < epoch) × (length o.chain < most_provider_epochs)
+-- a number that isn't refused is later
+pub number_none : (o : ProviderDirectory) (epoch : ℕ) → provider_number_refusal o epoch ≡ None → latest_epoch o.history < epoch
 number_none o epoch none =
     (elim (nat_lt (latest_epoch o.history) epoch) as (λ b. nat_lt (latest_epoch o.history) epoch ≡ b
-    → (if b then (if nat_lt (length o.chain) most_provider_epochs then None else Some (because board_full)) else Some (because (epoch_not_later (latest_epoch o.history)))) ≡ None
-    → (latest_epoch o.history < epoch) × (length o.chain < most_provider_epochs)) [
+    → (if b then None else Some (because (epoch_not_later (latest_epoch o.history)))) ≡ None → latest_epoch o.history < epoch) [
       | false ↦ λ _ is. absurd (let never = is in cc)
-      | true ↦ λ later.
-          (elim (nat_lt (length o.chain) most_provider_epochs) as
-          (λ b. nat_lt (length o.chain) most_provider_epochs ≡ b → (if b then None else Some (because board_full)) ≡ None → (latest_epoch o.history < epoch) × (length o.chain < most_provider_epochs)) [
-            | false ↦ λ _ is. absurd (let never = is in cc)
-            | true ↦ λ room _. (grind (arith, nat_tests), grind (arith, nat_tests))
-          ]) refl
+      | true ↦ λ later _. grind (arith, nat_tests)
     ]) refl none
 
-module _ {H : Type 0} (d : DirectoryView H) (was : Option Update) (b : BatchLine) (p : Prepared) (body : Body) (none : provider_refusal (provided_by d was) b ≡ None)
-    (body_is : body ≡ (pending_by (provided_by d was) b).body) (shown : shown_after d.state p b.epoch ≡ epoch_next (provided_by d was) b)
-    (indices : indices_of p ≡ (pending_by (provided_by d was) b).indices) (nodes : nodes_added p ≡ (pending_by (provided_by d was) b).nodes) where
+module _ {H : Type 0} (logged : Bool) (d : DirectoryView H) (was : Option Update) (b : BatchLine) (p : Prepared) (body : Body) (none : line_refusal (provided_by logged d was) b ≡ None)
+    (body_is : body ≡ (pending_by (provided_by logged d was) b).body) (shown : shown_after d.state p b.epoch ≡ epoch_next (provided_by logged d was) b)
+    (indices : indices_of p ≡ (pending_by (provided_by logged d was) b).indices) (nodes : nodes_added p ≡ (pending_by (provided_by logged d was) b).nodes) where
   abbrev opened : ProviderDirectory
-  opened = provided_by d was
+  opened = provided_by logged d was
 
   abbrev update : Update
   update = record { update = p; body = body }
@@ -177,22 +164,58 @@ module _ {H : Type 0} (d : DirectoryView H) (was : Option Update) (b : BatchLine
       let shown' : shown_after d.state p body.t ≡ epoch_next opened b = ap (shown_after d.state p) number ∙ shown in
       rw (body_is, indices, nodes) (ap (λ (x : Shown). record (pending_by opened b) { shown = x }) (rw body_is at shown'))
 
-  pub prepared_reply : (n : ℕ) → n ≡ nodes_added p → prepared body n ≡ (prepare_on opened b (provider_refusal opened b)).outcome
+  pub prepared_reply : (n : ℕ) → n ≡ nodes_added p → prepared body n ≡ (prepare_on opened b (line_refusal opened b)).outcome
   prepared_reply n is = rw (none, body_is, is, nodes) refl
 
-  pub prepared_state : serving (provided_by d (Some update)) ≡ (prepare_on opened b (provider_refusal opened b)).state
+  pub prepared_state : serving (provided_by logged d (Some update)) ≡ (prepare_on opened b (line_refusal opened b)).state
   prepared_state = rw none (ap (λ (x : Pending). serving (record opened { pending = Some x })) pending_is)
 
 -- ---- an update that was installed
 
-module _ {H : Type 0} (d e : DirectoryView H) (p : Update) (entry : Entry) (signature : List ℕ) (is : entry ≡ signed p.body (record { 0 = signature })) where
+-- the link is none that the line doesn't name
+pub install_is : (o : ProviderDirectory) (signature : List ℕ) (link : Claim) (p : Pending) → agrees link (link_by p signature) ≡ true
+    → install_on o signature link (Some p) ≡ record { outcome = installed (signed p.body (record { 0 = signature })) (link_by p signature); state = serving (installed_with o p signature) }
+install_is o signature link p on = rw on refl
+
+pub install_differs : (o : ProviderDirectory) (signature : List ℕ) (link : Claim) (p : Pending) → agrees link (link_by p signature) ≡ false
+    → install_on o signature link (Some p) ≡ refused (serving o) replay_differs
+install_differs o signature link p off = rw off refl
+
+module _ {H : Type 0} (logged : Bool) (d e : DirectoryView H) (p : Update) (signature : List ℕ) (link : Claim) (on : agrees link (link_by (pending_of d p) signature) ≡ true) where
+  abbrev entry : Entry
+  entry = signed p.body (record { 0 = signature })
+
   pub installed_reply : (pending : Option Update) → pending ≡ Some p
-      → installed entry (sha256 (link_preimage entry)) ≡ (install_on (provided_by d pending) signature (option_map (pending_of d) pending)).outcome
-  installed_reply pending some = rw (some, is) refl
+      → installed entry (sha256 (link_preimage entry)) ≡ (install_on (provided_by logged d pending) signature link (option_map (pending_of d) pending)).outcome
+  installed_reply pending some = rw (some, on) refl
 
   pub installed_state : (pending after : Option Update) → pending ≡ Some p → after ≡ None
       → e.state.nonce ≡ d.state.nonce → e.state.policy ≡ d.state.policy → e.state.before ≡ d.state.before → e.index ≡ put_indices d.index (indices_of p.update)
       → history_of e.state ≡ history_of d.state ++ shown_after d.state p.update p.body.t ∷ []
       → e.state.chain ≡ d.state.chain ++ entry ∷ [] → length e.state.nodes ≡ length d.state.nodes + nodes_added p.update
-      → serving (provided_by e after) ≡ (install_on (provided_by d pending) signature (option_map (pending_of d) pending)).state
-  installed_state pending after some none nonce policy before index history chain nodes = rw (some, none, nonce, policy, before, index, history, chain, nodes, is) refl
+      → serving (provided_by logged e after) ≡ (install_on (provided_by logged d pending) signature link (option_map (pending_of d) pending)).state
+  installed_state pending after some none nonce policy before index history chain nodes = rw (some, on, none, nonce, policy, before, index, history, chain, nodes) refl
+
+-- ---- what a line says of its update
+
+module _ (o : ProviderDirectory) (b : BatchLine) where
+  pub not_replaced : may_replace o b.claims ≡ false → line_refusal o b ≡ Some not_abandoned
+  not_replaced off = rw off refl
+
+  pub batch_first : (why : ProviderOutcome) → may_replace o b.claims ≡ true → provider_refusal o b ≡ Some why → line_refusal o b ≡ Some why
+  batch_first why on is = rw (on, is) refl
+
+  pub body_last : may_replace o b.claims ≡ true → provider_refusal o b ≡ None → agrees b.claims.body (body_bytes (pending_by o b).body) ≡ false
+      → line_refusal o b ≡ Some replay_differs
+  body_last on none off = rw (on, none, off) refl
+
+  pub line_accepted : may_replace o b.claims ≡ true → provider_refusal o b ≡ None → agrees b.claims.body (body_bytes (pending_by o b).body) ≡ true
+      → line_refusal o b ≡ None
+  line_accepted on none agreed = rw (on, none, agreed) refl
+
+  -- a line is refused as its refusal says
+  pub refused_outcome : (why : ProviderOutcome) → line_refusal o b ≡ Some why → why ≡ (prepare_on o b (line_refusal o b)).outcome
+  refused_outcome why is = rw is refl
+
+  pub refused_state : (why : ProviderOutcome) → line_refusal o b ≡ Some why → serving o ≡ (prepare_on o b (line_refusal o b)).state
+  refused_state why is = rw is refl

@@ -28,6 +28,8 @@ pub data ProviderOutcome : Type 0 where
   prepared : (body : Body) (nodes : ℕ) → ProviderOutcome
   -- the pending update was installed: the entry that it added to the chain, and the entry's link
   installed : (entry : Entry) (link : Octets) → ProviderOutcome
+  -- the pending update was dropped
+  withdrawn : ProviderOutcome
   -- a lookup found the path to the name's index in the tree of the epoch with this entry
   looked_up : (entry : Entry) (index name : Octets) (path : Path) → ProviderOutcome
   -- the latest epoch, its entry's link, and how many names and nodes there are
@@ -50,12 +52,20 @@ pub data ProviderOutcome : Type 0 where
   not_later : ProviderOutcome
   -- the entry's version is neither 1 nor 2
   bad_version : ProviderOutcome
+  -- no epoch is before the entry's, and its previous link isn't zeros
+  malformed : ProviderOutcome
   -- the root of the bindings isn't the entry's
   root_differs : ProviderOutcome
   -- the name of the operation at this place is registered with another index
   other_index_at : (place : ℕ) → ProviderOutcome
   -- no update is pending
   not_prepared : ProviderOutcome
+  -- `log` is another format
+  bad_log : ProviderOutcome
+  -- the line abandons another update than the pending one
+  not_abandoned : ProviderOutcome
+  -- the line names another body or link than its own
+  replay_differs : ProviderOutcome
   -- the name asked is registered with another index
   bad_index : ProviderOutcome
 
@@ -69,6 +79,7 @@ abbrev pub provider_outcome_of : Reply → ProviderOutcome
 provider_outcome_of reply.Opened = opened
 provider_outcome_of (reply.Prepared body nodes) = prepared body nodes
 provider_outcome_of (reply.Installed entry link) = installed entry link.0
+provider_outcome_of reply.Withdrawn = withdrawn
 provider_outcome_of (reply.LookedUp name found) = looked_up found.entry found.index.0 (string_bytes name) (path_of found.proof)
 provider_outcome_of (reply.Latest epoch link names nodes) = at_latest epoch link.0 names nodes
 provider_outcome_of (reply.Bindings page) = listed page.text.items
@@ -80,9 +91,13 @@ provider_outcome_of (reply.BadBinding place) = bad_binding place
 provider_outcome_of reply.NotRestoring = not_restoring
 provider_outcome_of reply.NotLater = not_later
 provider_outcome_of reply.Version = bad_version
+provider_outcome_of reply.Malformed = malformed
 provider_outcome_of reply.RootDiffers = root_differs
 provider_outcome_of (reply.OtherIndex place) = other_index_at place
 provider_outcome_of reply.NotPrepared = not_prepared
+provider_outcome_of reply.BadLog = bad_log
+provider_outcome_of reply.NotAbandoned = not_abandoned
+provider_outcome_of reply.ReplayDiffers = replay_differs
 provider_outcome_of reply.BadIndex = bad_index
 
 -- {"body":DIGITS,"epoch":NUM,"nodes":NUM,"ok":"prepare","root":DIGITS}
@@ -104,6 +119,10 @@ entry_data command entry link =
     (member (codes "link") (digits link)
     (member (codes "ok") (string command)
     (member (codes "root") (digits entry.body.root.0) no_members)))))
+
+-- {"ok":"withdraw"}
+abbrev pub withdrawn_data : Data
+withdrawn_data = object (member (codes "ok") (string (codes "withdraw")) no_members)
 
 -- {"epoch":NUM,"link":DIGITS,"names":NUM,"nodes":NUM,"ok":"latest"}
 abbrev pub latest_data : ℕ → Octets → ℕ → ℕ → Data
@@ -152,11 +171,19 @@ bad_binding_data place =
     (member (codes "member") (string (codes "bindings"))
     (member (codes "position") (number (unsigned place)) no_members)))
 
+-- {"fault":"Member","member":"log"}
+abbrev pub bad_log_data : Data
+bad_log_data =
+    object
+    (member (codes "fault") (string (codes "Member"))
+    (member (codes "member") (string (codes "log")) no_members))
+
 -- the text that is printed for what comes of a line: an object as JSON (RFC 8259) without white space
 abbrev pub provider_reply_text : ProviderOutcome → Octets
 provider_reply_text opened = compact_text opened_data
 provider_reply_text (prepared body nodes) = compact_text (prepared_data body nodes)
 provider_reply_text (installed entry link) = compact_text (entry_data (codes "install") entry link)
+provider_reply_text withdrawn = compact_text withdrawn_data
 provider_reply_text (looked_up entry index name path) = compact_text (looked_up_data entry index name path)
 provider_reply_text (at_latest epoch link names nodes) = compact_text (latest_data epoch link names nodes)
 provider_reply_text (listed text) = text
@@ -168,9 +195,13 @@ provider_reply_text (bad_binding place) = compact_text (bad_binding_data place)
 provider_reply_text not_restoring = compact_text (fault_data (codes "NotRestoring"))
 provider_reply_text not_later = compact_text (fault_data (codes "NotLater"))
 provider_reply_text bad_version = compact_text (fault_data (codes "Version"))
+provider_reply_text malformed = compact_text (fault_data (codes "Malformed"))
 provider_reply_text root_differs = compact_text (fault_data (codes "RootDiffers"))
 provider_reply_text (other_index_at place) = compact_text (placed_fault_data (codes "OtherIndex") place)
 provider_reply_text not_prepared = compact_text (fault_data (codes "NotPrepared"))
+provider_reply_text bad_log = compact_text bad_log_data
+provider_reply_text not_abandoned = compact_text (fault_data (codes "NotAbandoned"))
+provider_reply_text replay_differs = compact_text (fault_data (codes "ReplayDiffers"))
 provider_reply_text bad_index = compact_text (fault_data (codes "OtherIndex"))
 
 -- the line was accepted
@@ -178,6 +209,7 @@ abbrev pub is_accepted_line : ProviderOutcome → Bool
 is_accepted_line opened = true
 is_accepted_line (prepared body nodes) = true
 is_accepted_line (installed entry link) = true
+is_accepted_line withdrawn = true
 is_accepted_line (looked_up entry index name path) = true
 is_accepted_line (at_latest epoch link names nodes) = true
 is_accepted_line (listed page) = true

@@ -1,7 +1,9 @@
 pub mod Answers
+pub mod Claims
 pub mod Lines
 pub mod Laws
-pub mod Limits
-pub mod Signing
+pub mod Logs
+pub mod Replays
+pub mod Stored
 pub mod Stores
 pub mod Turns

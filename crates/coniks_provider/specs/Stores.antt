@@ -1,24 +1,28 @@
 -- What a store holds, as a state, and what is true of it.
-use Rattle.std.specs.Prelude.{ℕ, ◌≡◌, ◌<◌, ◌≤◌, List, [], length, IfSome, Option, Some, option_map, Result, Ok, Err}
+use Rattle.std.specs.Prelude.{Bool, ◌≡◌, ◌<◌, List, length, IfSome, Option, Some, None, option_map, Result, Ok, Err}
 use Rattle.coniks_proof.specs.Octets.{Octets}
 use Rattle.coniks_proof.specs.Sha256.{sha256}
 use Rattle.coniks_chain.specs.Chain.{before_at}
-use Rattle.coniks_directory.specs.Chain.{body_of, heads_of}
+use Rattle.coniks_directory.specs.Chain.{body_of}
 use Rattle.coniks_directory.specs.History.{latest_epoch, nonce_bytes}
 use Rattle.coniks_directory.specs.Restored.{RestoringView}
 use Rattle.coniks_directory.specs.State.{View, history_of}
 use Rattle.coniks_directory.specs.Supplied.{Supplied, supplied_index}
 use Rattle.coniks_directory.specs.SuppliedBatches.{IsSuppliedUpdate, indices_of, indexed}
-use Rattle.coniks_json.specs.Refusals.{IsRefusable, refused_as}
+use Rattle.coniks_json.specs.Refusals.{IsRefusable, bad_name_length, refused_as, unknown_epoch}
+use Rattle.coniks_directory.specs.declared.bindings.BindingsFault.{BindingsFault}
+use Rattle.coniks_directory.specs.declared.bindings.BindingsFault.TheVariants as page
+use Rattle.coniks_directory.specs.declared.lookup.LookupAtFault.{LookupAtFault}
+use Rattle.coniks_directory.specs.declared.lookup.LookupAtFault.TheVariants as lookup
+use Rattle.coniks_directory.specs.declared.restoring.RestoreFault.{RestoreFault}
+use Rattle.coniks_directory.specs.declared.restoring.RestoreFault.TheVariants.{NotLater, Version, Malformed, RootDiffers, OutOfMemory}
 use Rattle.coniks_directory.specs.declared.supplied_batch.SuppliedBatchFault.{SuppliedBatchFault}
 use Rattle.coniks_directory.specs.declared.supplied_batch.SuppliedBatchFault.TheVariants.{Batch as OfBatch, OtherIndex}
 use Rattle.coniks_directory.specs.Updates.{base_of, nodes_added, shown_after}
-use Rattle.coniks_shared.specs.Boards.{Boarded, BoardEnd}
-use Rattle.coniks_provider.specs.Limits.{most_provider_epochs}
 use Rattle.coniks_json.specs.Turns.{refused}
-use Rattle.coniks_provider.specs.Answers.{ProviderOutcome, because, other_index_at, provider_outcome_of, restore_begun}
+use Rattle.coniks_provider.specs.Answers.{ProviderOutcome, bad_index, bad_version, because, malformed, not_later, other_index_at, provider_outcome_of, restore_begun, root_differs}
 use Rattle.coniks_provider.specs.Turns.{BatchLine, ProviderDirectory, Pending, ProviderState, ProviderTurn, Restore, nothing, restoring, serving}
-use Rattle.coniks_directory.specs.declared.supplied_batch.OwnedBatch.{OwnedBatch}
+use Rattle.coniks_provider.specs.declared.batch.ReadBatch.{ReadBatch}
 use Rattle.coniks_provider.specs.declared.reply.Reply.{Reply}
 use Rattle.coniks_provider.specs.declared.restoring.Restore.{Restore as Restoring}
 use Rattle.coniks_provider.specs.declared.service.Pending.{Pending as Update}
@@ -31,8 +35,13 @@ abbrev pub DirectoryView : Type 0 → Type 0
 DirectoryView H = View H (List Supplied)
 
 -- a batch that was read
-abbrev pub batch_line_of : ℕ → OwnedBatch → BatchLine
-batch_line_of epoch b = record { epoch = epoch; new_nonce = nonce_bytes b.nonce; ops = indexed b.ops.items b.indices.items }
+abbrev pub batch_line_of : ReadBatch → BatchLine
+batch_line_of line = record {
+  epoch = line.epoch;
+  new_nonce = nonce_bytes line.batch.nonce;
+  ops = indexed line.batch.ops.items line.batch.indices.items;
+  claims = record { body = line.body; abandons = line.abandons };
+}
 
 -- an update of a directory
 abbrev pub pending_of : {H : Type 0} → DirectoryView H → Update → Pending
@@ -45,8 +54,9 @@ pending_of {H} d p = record {
 }
 
 -- what an opened directory holds
-abbrev pub provided_by : {H : Type 0} → DirectoryView H → Option Update → ProviderDirectory
-provided_by {H} d pending = record {
+abbrev pub provided_by : {H : Type 0} → Bool → DirectoryView H → Option Update → ProviderDirectory
+provided_by {H} logged d pending = record {
+  logged = logged;
   nonce = d.state.nonce;
   policy = d.state.policy;
   before = d.state.before;
@@ -58,19 +68,14 @@ provided_by {H} d pending = record {
 }
 
 abbrev pub provided_of : Service → ProviderDirectory
-provided_of s = provided_by s.directory s.pending
+provided_of s = provided_by s.is_logged s.directory s.pending
 
 -- what a restore that has begun holds
-abbrev pub restore_by : {H : Type 0} → RestoringView H (List Supplied) → Restore
-restore_by {H} v = record { entry = v.entry; ops = v.ops; indices = v.index }
+abbrev pub restore_by : {H : Type 0} → Bool → RestoringView H (List Supplied) → Restore
+restore_by {H} logged v = record { logged = logged; entry = v.entry; ops = v.ops; indices = v.index }
 
 abbrev pub restore_of : Restoring → Restore
-restore_of r = restore_by r.restoring
-
--- it isn't an open directory
-abbrev pub IsNotOpen : Held → Type 0
-IsNotOpen (held.Open s) = ⊥
-IsNotOpen _ = Unit {0}
+restore_of r = restore_by r.is_logged r.restoring
 
 -- it isn't a restore
 abbrev pub IsNotRestoring : Held → Type 0
@@ -88,27 +93,17 @@ pub record IsPending {H : Type 0} (d : DirectoryView H) (p : Update) : Type 0 wh
   pub supplied : IsSuppliedUpdate sha256 (supplied_index d.index) d.state p.update index
   pub fresh : base_of p.update ≡ length d.state.epochs
   pub later : latest_epoch (history_of d.state) < p.body.t
-  pub room : length d.state.chain < most_provider_epochs
   pub body : p.body ≡ body_of sha256 index d.state.policy
       (before_at sha256 d.state.before d.state.chain (length d.state.chain)) (shown_after d.state p.update p.body.t)
 
--- the heads of the chain are those that are published, and what is pending can be installed
-pub record IsServing {H : Type 0} (published : BoardEnd) (d : DirectoryView H) (update : Option Update) : Type 0 where
-  pub heads : published.heads ≡ heads_of sha256 d.state.chain
-  pub room : length d.state.chain ≤ most_provider_epochs
-  pub pending : IfSome update (IsPending d)
+-- what is pending in a directory that is open can be installed
+abbrev pub IsServing : Service → Type 0
+IsServing s = IfSome s.pending (IsPending s.directory)
 
--- before a directory is opened or restored no head is published
-abbrev pub IsServingIf : BoardEnd → Held → Type 0
-IsServingIf published held.Nothing = published.heads ≡ []
-IsServingIf published (held.Restoring r) = published.heads ≡ []
-IsServingIf published (held.Open s) = IsServing published s.directory s.pending
-
--- the board is the publisher's, and what is opened is served
-pub record IsProvided (board : Boarded) (published : BoardEnd) (held : Held) : Type 0 where
-  pub table : published.table ≡ board.table
-  pub capacity : board.capacity ≡ most_provider_epochs
-  pub served : IsServingIf published held
+abbrev pub IsServingIf : Held → Type 0
+IsServingIf held.Nothing = Unit {0}
+IsServingIf (held.Restoring r) = Unit {0}
+IsServingIf (held.Open s) = IsServing s
 
 -- the error of a batch, as a reply; none if an allocation failed
 abbrev pub supplied_refused_as : SuppliedBatchFault → Option ProviderOutcome
@@ -119,6 +114,26 @@ supplied_refused_as (OtherIndex position) = Some (other_index_at position)
 abbrev pub IsSuppliedRefusable : SuppliedBatchFault → Type 0
 IsSuppliedRefusable (OfBatch fault) = IsRefusable fault
 IsSuppliedRefusable (OtherIndex position) = Unit {0}
+
+-- the error of a lookup, as a reply; none if an allocation failed
+abbrev pub lookup_refused_as : LookupAtFault → Option ProviderOutcome
+lookup_refused_as lookup.UnknownEpoch = Some (because unknown_epoch)
+lookup_refused_as lookup.NameLength = Some (because bad_name_length)
+lookup_refused_as lookup.OtherIndex = Some bad_index
+lookup_refused_as lookup.OutOfMemory = None
+
+-- the error of a page, as a reply; none if an allocation failed
+abbrev pub page_refused_as : BindingsFault → Option ProviderOutcome
+page_refused_as page.UnknownEpoch = Some (because unknown_epoch)
+page_refused_as page.OutOfMemory = None
+
+-- the error of a restore, as a reply; none if an allocation failed
+abbrev pub restore_refused_as : RestoreFault → Option ProviderOutcome
+restore_refused_as NotLater = Some not_later
+restore_refused_as Version = Some bad_version
+restore_refused_as Malformed = Some malformed
+restore_refused_as RootDiffers = Some root_differs
+restore_refused_as OutOfMemory = None
 
 -- a restore that begins, or the refusal of its entry
 abbrev pub begun_turn : Result Restoring Reply → ProviderTurn

@@ -1,5 +1,5 @@
 -- What `provider` replies to a line.
-use Rattle.std.specs.Prelude.{◌==◌, ℕ, ◌+◌, List, [], ◌∷◌, ◌++◌, codes, find, length, map, take, Bool, not, ◌&&◌, ◌||◌, nat_le, nat_lt, Option, Some, None, option_map, Result, Ok, Err, if◌then◌else◌}
+use Rattle.std.specs.Prelude.{◌==◌, ℕ, ◌+◌, List, [], ◌∷◌, ◌++◌, codes, find, length, map, take, Bool, false, not, ◌&&◌, ◌||◌, nat_le, nat_lt, Option, Some, None, option_and_then, option_map, Result, Ok, Err, if◌then◌else◌}
 use Rattle.std.specs.Option.{option_map_or}
 use Rattle.std.specs.Str.{bytes_eq}
 use Rattle.serde_json.specs.Data.{Data, Items}
@@ -8,11 +8,12 @@ use Rattle.coniks_lines.specs.Machine.{Answer}
 use Rattle.coniks_proof.specs.Sha256.{sha256}
 use Rattle.coniks_proof.specs.Batches.{Fault, Operation, after, bound_by, fault_from, fits}
 use Rattle.coniks_proof.specs.Octets.{Octets}
+use Rattle.coniks_proof.specs.Preimages.{zeros}
 use Rattle.coniks_proof.specs.Registry.{Registry, has_name, root_of}
 use Rattle.coniks_proof.specs.declared.values.Index.{Index}
 use Rattle.coniks_proof.specs.declared.values.TheConstants.{MAX_NAME, MAX_OPERATIONS}
 use Rattle.coniks_chain.specs.Chain.{before_at, link_before}
-use Rattle.coniks_chain.specs.Entries.{link_preimage, signed}
+use Rattle.coniks_chain.specs.Entries.{body_bytes, link_preimage, signed}
 use Rattle.coniks_chain.specs.declared.auditor.AuditorState.{AuditorState}
 use Rattle.coniks_chain.specs.declared.entry.Body.{Body}
 use Rattle.coniks_chain.specs.declared.entry.Entry.{Entry}
@@ -29,11 +30,12 @@ use Rattle.coniks_json.specs.Members.{array_in, digits_in, given, if_there, numb
 use Rattle.coniks_json.specs.Paths.{path_to}
 use Rattle.coniks_json.specs.Turns.{Turn, refused}
 use Rattle.coniks_json.specs.declared.printing.Member.TheVariants.{Nonce, Policy, Epoch, Ops, Name, Index as IndexMember, Signature, Entry as EntryMember, After, Most, Bindings as BindingsMember}
-use Rattle.coniks_json.specs.Refusals.{already_open, bad_batch, bad_member, bad_name_length, bad_operation, batch_too_long, board_full, epoch_not_later, no_command, not_json, not_open, unknown_epoch}
-use Rattle.coniks_provider.specs.Answers.{ProviderOutcome, at_latest, bad_binding, bad_index, bad_supplied, bad_version, because, bindings_added, installed, is_accepted_line, listed, looked_up, not_later}
-use Rattle.coniks_provider.specs.Answers.{not_prepared, not_restoring, opened, page_data, prepared, provider_reply_text, restore_begun, restored, root_differs}
-use Rattle.coniks_provider.specs.Limits.{most_provider_epochs}
+use Rattle.coniks_json.specs.Refusals.{already_open, bad_batch, bad_member, bad_name_length, bad_operation, batch_too_long, epoch_not_later, no_command, not_json, not_open, unknown_epoch}
+use Rattle.coniks_provider.specs.Answers.{ProviderOutcome, at_latest, bad_binding, bad_index, bad_log, bad_supplied, bad_version, because, bindings_added, installed, is_accepted_line, listed, looked_up, malformed, not_later}
+use Rattle.coniks_provider.specs.Answers.{not_abandoned, not_prepared, not_restoring, opened, page_data, prepared, provider_reply_text, replay_differs, restore_begun, restored, root_differs, withdrawn}
+use Rattle.coniks_provider.specs.Claims.{Claim, agrees, claim_in, is_named, log_in}
 use Rattle.coniks_provider.specs.Lines.{batch_in}
+use Rattle.coniks_provider.specs.Stored.{stored_line, with_store}
 use Rattle.coniks_provider.specs.declared.operations.Elements.TheVariants.{Operations, Bindings}
 
 -- an update that was prepared: the body to sign, the epoch that it makes, its names with their indices, and how many nodes it adds
@@ -43,9 +45,10 @@ pub record Pending : Type 0 where
   pub indices : List Supplied
   pub nodes : ℕ
 
--- a directory that was opened: its nonce and policy, what the first entry of its chain is compared with, the registered names with their
--- indices, its history with its chain, how many nodes its tree has, and the update that is pending, if one is
+-- a directory that was opened: whether the rules of a log hold, its nonce and policy, what the first entry of its chain is compared with,
+-- the registered names with their indices, its history with its chain, how many nodes its tree has, and the update that is pending, if one is
 pub record ProviderDirectory : Type 0 where
+  pub logged : Bool
   pub nonce : Octets
   pub policy : Octets
   pub before : Option AuditorState
@@ -55,8 +58,10 @@ pub record ProviderDirectory : Type 0 where
   pub nodes : ℕ
   pub pending : Option Pending
 
--- a restore that has begun: the entry, and the bindings so far, each as the operation that registers it, with the indices of their names
+-- a restore that has begun: whether the rules of a log will hold, the entry, and the bindings so far, each as the operation that registers
+-- it, with the indices of their names
 pub record Restore : Type 0 where
+  pub logged : Bool
   pub entry : Entry
   pub ops : List Operation
   pub indices : List Supplied
@@ -77,28 +82,36 @@ ProviderTurn = Turn ProviderOutcome ProviderState
 -- ---- open
 
 -- a directory with no epochs
-abbrev pub nothing_yet : Octets → Octets → ProviderDirectory
-nothing_yet nonce policy = record { nonce = nonce; policy = policy; before = None; indices = []; history = []; chain = []; nodes = 0; pending = None }
+abbrev pub nothing_yet : Bool → Octets → Octets → ProviderDirectory
+nothing_yet logged nonce policy = record { logged = logged; nonce = nonce; policy = policy; before = None; indices = []; history = []; chain = []; nodes = 0; pending = None }
 
 -- a directory is opened once, and not while one is restored
-abbrev pub provider_open_with : ProviderState → Octets → Octets → ProviderTurn
-provider_open_with nothing nonce policy = record { outcome = opened; state = serving (nothing_yet nonce policy) }
-provider_open_with (restoring r) nonce policy = refused (restoring r) (because already_open)
-provider_open_with (serving o) nonce policy = refused (serving o) (because already_open)
+abbrev pub provider_open_with : ProviderState → Bool → Octets → Octets → ProviderTurn
+provider_open_with nothing logged nonce policy = record { outcome = opened; state = serving (nothing_yet logged nonce policy) }
+provider_open_with (restoring r) logged nonce policy = refused (restoring r) (because already_open)
+provider_open_with (serving o) logged nonce policy = refused (serving o) (because already_open)
 
 -- `open`, by its members in the order of reading
-abbrev pub provider_open_turn : ProviderState → Option Octets → Option Octets → ProviderTurn
-provider_open_turn s None _ = refused s (because (bad_member Nonce))
-provider_open_turn s (Some nonce) None = refused s (because (bad_member Policy))
-provider_open_turn s (Some nonce) (Some policy) = provider_open_with s nonce policy
+abbrev pub provider_open_turn : ProviderState → Option Octets → Option Octets → Option Bool → ProviderTurn
+provider_open_turn s None _ _ = refused s (because (bad_member Nonce))
+provider_open_turn s (Some nonce) None _ = refused s (because (bad_member Policy))
+provider_open_turn s (Some nonce) (Some policy) None = refused s bad_log
+provider_open_turn s (Some nonce) (Some policy) (Some logged) = provider_open_with s logged nonce policy
 
 -- ---- prepare
 
--- a batch: its epoch, the nonce under which the tree is rehashed, if any, and its operations with the indices of their names
+-- what a line says of its update: the body, and that of the update that it abandons
+pub record Claims : Type 0 where
+  pub body : Claim
+  pub abandons : Claim
+
+-- a batch: its epoch, the nonce under which the tree is rehashed, if any, its operations with the indices of their names, and what the
+-- line says of its update
 pub record BatchLine : Type 0 where
   pub epoch : ℕ
   pub new_nonce : Option Octets
   pub ops : List Indexed
+  pub claims : Claims
 
 -- the epoch that a batch makes after the latest one, or after `open`
 abbrev pub epoch_next : ProviderDirectory → BatchLine → Shown
@@ -119,12 +132,9 @@ pending_by o b = record {
   nodes = epoch_nodes (index_for o b) o.history b.new_nonce (operations_of b.ops);
 }
 
--- why no update is prepared under a number: it isn't later than the latest one, else there are as many epochs as the board takes heads
+-- why no update is prepared under a number: it isn't later than the latest one
 abbrev pub provider_number_refusal : ProviderDirectory → ℕ → Option ProviderOutcome
-provider_number_refusal o epoch =
-    if nat_lt (latest_epoch o.history) epoch
-    then (if nat_lt (length o.chain) most_provider_epochs then None else Some (because board_full))
-    else Some (because (epoch_not_later (latest_epoch o.history)))
+provider_number_refusal o epoch = if nat_lt (latest_epoch o.history) epoch then None else Some (because (epoch_not_later (latest_epoch o.history)))
 
 -- the first operation with an error refuses the batch, else its number may
 abbrev pub provider_refusal_from : ProviderDirectory → ℕ → Option (ℕ × SuppliedFault) → Option ProviderOutcome
@@ -137,6 +147,24 @@ provider_refusal o b =
     if nat_le (length b.ops) MAX_OPERATIONS
     then provider_refusal_from o b.epoch (supplied_fault (supplied_index o.indices) (latest_registry o.history) b.ops)
     else Some (because batch_too_long)
+
+-- the body of the update that is pending, if one is
+abbrev pub pending_body : ProviderDirectory → Option Octets
+pending_body o = option_map (λ (p : Pending). body_bytes p.body) o.pending
+
+-- the line abandons the update that is pending, and no other, if the rules of a log hold
+abbrev pub may_replace : ProviderDirectory → Claims → Bool
+may_replace o claims =
+    not o.logged || is_named claims.abandons (pending_body o)
+
+-- a batch that isn't refused may name another body than its own
+abbrev pub body_refusal : ProviderDirectory → BatchLine → Option ProviderOutcome → Option ProviderOutcome
+body_refusal o b (Some why) = Some why
+body_refusal o b None = if agrees b.claims.body (body_bytes (pending_by o b).body) then None else Some replay_differs
+
+-- why a line with a batch is refused
+abbrev pub line_refusal : ProviderDirectory → BatchLine → Option ProviderOutcome
+line_refusal o b = if may_replace o b.claims then body_refusal o b (provider_refusal o b) else Some not_abandoned
 
 -- a batch is refused, or its update takes the place of the pending one
 abbrev pub prepare_on : ProviderDirectory → BatchLine → Option ProviderOutcome → ProviderTurn
@@ -151,19 +179,19 @@ prepare_on o b None = record {
 abbrev pub prepare_with : ProviderState → BatchLine → ProviderTurn
 prepare_with nothing b = refused nothing (because not_open)
 prepare_with (restoring r) b = refused (restoring r) (because not_open)
-prepare_with (serving o) b = prepare_on o b (provider_refusal o b)
+prepare_with (serving o) b = prepare_on o b (line_refusal o b)
 
 -- the operations were read, or one was not
-abbrev pub batch_read_turn : ProviderState → ℕ → Option Octets → Result (List Indexed) ℕ → ProviderTurn
-batch_read_turn s epoch new_nonce (Err place) = refused s (because (bad_operation place))
-batch_read_turn s epoch new_nonce (Ok ops) = prepare_with s (record { epoch = epoch; new_nonce = new_nonce; ops = ops })
+abbrev pub batch_read_turn : ProviderState → ℕ → Option Octets → Claims → Result (List Indexed) ℕ → ProviderTurn
+batch_read_turn s epoch new_nonce claims (Err place) = refused s (because (bad_operation place))
+batch_read_turn s epoch new_nonce claims (Ok ops) = prepare_with s (record { epoch = epoch; new_nonce = new_nonce; ops = ops; claims = claims })
 
 -- `prepare`, by its members in the order of reading; the nonce may be missing
-abbrev pub prepare_turn : ProviderState → Option ℕ → Option (Option Octets) → Option Items → ProviderTurn
-prepare_turn s None new_nonce items = refused s (because (bad_member Epoch))
-prepare_turn s (Some epoch) None items = refused s (because (bad_member Nonce))
-prepare_turn s (Some epoch) (Some new_nonce) None = refused s (because (bad_member Ops))
-prepare_turn s (Some epoch) (Some new_nonce) (Some items) = batch_read_turn s epoch new_nonce (batch_in Operations items)
+abbrev pub prepare_turn : ProviderState → Option ℕ → Option (Option Octets) → Option Items → Claims → ProviderTurn
+prepare_turn s None new_nonce items claims = refused s (because (bad_member Epoch))
+prepare_turn s (Some epoch) None items claims = refused s (because (bad_member Nonce))
+prepare_turn s (Some epoch) (Some new_nonce) None claims = refused s (because (bad_member Ops))
+prepare_turn s (Some epoch) (Some new_nonce) (Some items) claims = batch_read_turn s epoch new_nonce claims (batch_in Operations items)
 
 -- ---- install
 
@@ -177,24 +205,41 @@ installed_with o p signature = record o {
   pending = None;
 }
 
--- the pending update is installed
-abbrev pub install_on : ProviderDirectory → Octets → Option Pending → ProviderTurn
-install_on o signature None = refused (serving o) not_prepared
-install_on o signature (Some p) = record {
-  outcome = installed (signed p.body (record { 0 = signature })) (sha256 (link_preimage (signed p.body (record { 0 = signature }))));
-  state = serving (installed_with o p signature);
-}
+-- the link of the entry that an update makes with a signature
+abbrev pub link_by : Pending → Octets → Octets
+link_by p signature = sha256 (link_preimage (signed p.body (record { 0 = signature })))
+
+-- the pending update is installed, unless the line names another link than its own
+abbrev pub install_on : ProviderDirectory → Octets → Claim → Option Pending → ProviderTurn
+install_on o signature link None = refused (serving o) not_prepared
+install_on o signature link (Some p) =
+    if agrees link (link_by p signature)
+    then record { outcome = installed (signed p.body (record { 0 = signature })) (link_by p signature); state = serving (installed_with o p signature) }
+    else refused (serving o) replay_differs
 
 -- a signature that was read
-abbrev pub install_with : ProviderState → Octets → ProviderTurn
-install_with nothing signature = refused nothing (because not_open)
-install_with (restoring r) signature = refused (restoring r) (because not_open)
-install_with (serving o) signature = install_on o signature o.pending
+abbrev pub install_with : ProviderState → Octets → Claim → ProviderTurn
+install_with nothing signature link = refused nothing (because not_open)
+install_with (restoring r) signature link = refused (restoring r) (because not_open)
+install_with (serving o) signature link = install_on o signature link o.pending
 
 -- `install`, by its member
-abbrev pub install_turn : ProviderState → Option Octets → ProviderTurn
-install_turn s None = refused s (because (bad_member Signature))
-install_turn s (Some signature) = install_with s signature
+abbrev pub install_turn : ProviderState → Option Octets → Claim → ProviderTurn
+install_turn s None link = refused s (because (bad_member Signature))
+install_turn s (Some signature) link = install_with s signature link
+
+-- ---- withdraw
+
+-- the pending update is dropped
+abbrev pub withdraw_on : ProviderDirectory → Option Pending → ProviderTurn
+withdraw_on o None = refused (serving o) not_prepared
+withdraw_on o (Some p) = record { outcome = withdrawn; state = serving (record o { pending = None }) }
+
+-- `withdraw`
+abbrev pub withdraw_turn : ProviderState → ProviderTurn
+withdraw_turn nothing = refused nothing (because not_open)
+withdraw_turn (restoring r) = refused (restoring r) (because not_open)
+withdraw_turn (serving o) = withdraw_on o o.pending
 
 -- ---- lookup
 
@@ -282,31 +327,40 @@ bindings_outcome s (Some epoch) (Some after) (Some most) = bindings_with s epoch
 -- ---- restore
 
 -- a restore without bindings
-abbrev pub no_bindings_yet : Entry → Restore
-no_bindings_yet entry = record { entry = entry; ops = []; indices = [] }
+abbrev pub no_bindings_yet : Bool → Entry → Restore
+no_bindings_yet logged entry = record { logged = logged; entry = entry; ops = []; indices = [] }
 
--- why an entry can't be restored: its epoch isn't later than the one before it, else its version is neither 1 nor 2
+-- no epoch is before the entry's, and its previous link isn't zeros: no chain has it
+abbrev pub is_misbegun : Entry → Bool
+is_misbegun entry = entry.body.t_prev == 0 && not (bytes_eq entry.body.previous.0 zeros)
+
+-- why an entry of a known version can't be restored
+abbrev pub begin_refusal : Entry → Option ProviderOutcome
+begin_refusal entry = if is_misbegun entry then Some malformed else None
+
+-- why an entry can't be restored: its epoch isn't later than the one before it, else its version is neither 1 nor 2, else no chain has it
 abbrev pub entry_refusal : Entry → Option ProviderOutcome
 entry_refusal entry =
     if nat_lt entry.body.t_prev entry.body.t
-    then (if entry.body.version == 1 || entry.body.version == 2 then None else Some bad_version)
+    then (if entry.body.version == 1 || entry.body.version == 2 then begin_refusal entry else Some bad_version)
     else Some not_later
 
 -- the entry is refused, or a restore begins
-abbrev pub restore_from : Entry → Option ProviderOutcome → ProviderTurn
-restore_from entry (Some why) = refused nothing why
-restore_from entry None = record { outcome = restore_begun; state = restoring (no_bindings_yet entry) }
+abbrev pub restore_from : Bool → Entry → Option ProviderOutcome → ProviderTurn
+restore_from logged entry (Some why) = refused nothing why
+restore_from logged entry None = record { outcome = restore_begun; state = restoring (no_bindings_yet logged entry) }
 
 -- an entry that was read
-abbrev pub restore_with : ProviderState → Entry → ProviderTurn
-restore_with nothing entry = restore_from entry (entry_refusal entry)
-restore_with (restoring r) entry = refused (restoring r) (because already_open)
-restore_with (serving o) entry = refused (serving o) (because already_open)
+abbrev pub restore_with : ProviderState → Bool → Entry → ProviderTurn
+restore_with nothing logged entry = restore_from logged entry (entry_refusal entry)
+restore_with (restoring r) logged entry = refused (restoring r) (because already_open)
+restore_with (serving o) logged entry = refused (serving o) (because already_open)
 
--- `restore`, by its member
-abbrev pub restore_turn : ProviderState → Option Entry → ProviderTurn
-restore_turn s None = refused s (because (bad_member EntryMember))
-restore_turn s (Some entry) = restore_with s entry
+-- `restore`, by its members in the order of reading
+abbrev pub restore_turn : ProviderState → Option Entry → Option Bool → ProviderTurn
+restore_turn s None _ = refused s (because (bad_member EntryMember))
+restore_turn s (Some entry) None = refused s bad_log
+restore_turn s (Some entry) (Some logged) = restore_with s logged entry
 
 -- ---- restoring
 
@@ -367,6 +421,7 @@ root_of_bindings r = root_of sha256 (supplied_index r.indices) r.entry.body.nonc
 -- the directory whose only epoch is that of the entry
 abbrev pub restored_directory : Restore → ProviderDirectory
 restored_directory r = record {
+  logged = r.logged;
   nonce = r.entry.body.nonce.0;
   policy = r.entry.body.policy;
   before = Some (said_before r.entry);
@@ -392,6 +447,10 @@ restored_turn (serving o) = refused (serving o) not_restoring
 
 -- ---- lines
 
+-- what an object says of its update
+abbrev pub claims_in : Data → Claims
+claims_in d = record { body = claim_in 145 (codes "body") d; abandons = claim_in 145 (codes "abandons") d }
+
 -- a reply that leaves the state as it is
 abbrev pub reads : ProviderState → ProviderOutcome → ProviderTurn
 reads s outcome = record { outcome = outcome; state = s }
@@ -400,26 +459,37 @@ reads s outcome = record { outcome = outcome; state = s }
 abbrev pub provider_command_turn : ProviderState → Data → Option Octets → ProviderTurn
 provider_command_turn s d None = refused s (because no_command)
 provider_command_turn s d (Some name) =
-    if bytes_eq name (codes "open") then provider_open_turn s (digits_in 32 (codes "nonce") d) (digits_in 32 (codes "policy") d)
+    if bytes_eq name (codes "open") then provider_open_turn s (digits_in 32 (codes "nonce") d) (digits_in 32 (codes "policy") d) (log_in d)
     else (if bytes_eq name (codes "prepare") then prepare_turn s (number_in (codes "epoch") d)
-    (if_there (codes "nonce") d (digits_in 32 (codes "nonce") d)) (array_in (codes "ops") d)
-    else (if bytes_eq name (codes "install") then install_turn s (digits_in 64 (codes "signature") d)
+    (if_there (codes "nonce") d (digits_in 32 (codes "nonce") d)) (array_in (codes "ops") d) (claims_in d)
+    else (if bytes_eq name (codes "install") then install_turn s (digits_in 64 (codes "signature") d) (claim_in 32 (codes "link") d)
+    else (if bytes_eq name (codes "withdraw") then withdraw_turn s
     else (if bytes_eq name (codes "lookup") then reads s
     (provider_lookup_outcome s (number_in (codes "epoch") d) (text_in (codes "name") d) (digits_in 32 (codes "index") d))
     else (if bytes_eq name (codes "latest") then reads s (latest_outcome s)
     else (if bytes_eq name (codes "bindings") then reads s
     (bindings_outcome s (number_in (codes "epoch") d) (if_there (codes "after") d (digits_in 32 (codes "after") d)) (most_in d))
-    else (if bytes_eq name (codes "restore") then restore_turn s (entry_in d)
+    else (if bytes_eq name (codes "restore") then restore_turn s (entry_in d) (log_in d)
     else (if bytes_eq name (codes "restoring") then restoring_turn s (array_in (codes "bindings") d)
     else (if bytes_eq name (codes "restored") then restored_turn s
-    else refused s (because no_command)))))))))
+    else refused s (because no_command))))))))))
 
 -- what comes of a line
 abbrev pub provider_turn : ProviderState → Octets → ProviderTurn
 provider_turn s line = option_map_or (λ d. provider_command_turn s d (text_in (codes "cmd") d)) (object_in line) (refused s (because not_json))
 
+-- the rules of a log hold
+abbrev pub is_logged : ProviderState → Bool
+is_logged nothing = false
+is_logged (restoring r) = false
+is_logged (serving o) = o.logged
+
+-- the line to store, if the rules of a log hold and the line is one that a log has
+abbrev pub to_store : ProviderTurn → Octets → Option Octets
+to_store t line = if is_logged t.state then option_and_then (λ d. stored_line t.outcome d line) (object_in line) else None
+
 -- the reply to a line
 abbrev pub provider_answer : ProviderState → Octets → Answer ProviderState
 provider_answer s line =
     let t = provider_turn s line in
-    record { text = provider_reply_text t.outcome; accepted = is_accepted_line t.outcome; state = t.state }
+    record { text = with_store (provider_reply_text t.outcome) (to_store t line); accepted = is_accepted_line t.outcome; state = t.state }

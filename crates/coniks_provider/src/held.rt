@@ -1,8 +1,8 @@
 //! What the lines of a provider have made: nothing, a restore that has begun, or an open directory.
 
 ghost use Rattle.std.specs.Prelude.{◌≡◌, IfSome, None};
-ghost use Rattle.coniks_provider.specs.Stores.{IsNotOpen, IsNotRestoring};
-ghost use Rattle.coniks_provider.specs.declared.held.Held.TheVariants.{Nothing, Open, Restoring};
+ghost use Rattle.coniks_provider.specs.Stores.{IsNotRestoring};
+ghost use Rattle.coniks_provider.specs.declared.held.Held.TheVariants.{Nothing, Restoring};
 
 use crate::restoring::Restore;
 use crate::service::Service;
@@ -17,21 +17,6 @@ pub(crate) enum Held {
     Restoring(Restore),
     /// An open directory.
     Open(Service),
-}
-
-/// Takes the open directory out, if there is one.
-pub(crate) fn take_open(held: &mut Held) -> Option<Service>
-    ensures some { IfSome result (λ service. held.old ≡ Open service) }
-    ensures left { IfSome result (λ _. held.new ≡ Nothing) }
-    ensures none { result ≡ None → (held.new ≡ held.old) × IsNotOpen held.old }
-{
-    match replace(held, Held::Nothing) {
-        Held::Open(service) => Some(service),
-        other => {
-            *held = other;
-            None
-        }
-    }
 }
 
 /// Takes out the restore that has begun, if there is one.

@@ -14,15 +14,19 @@
 #![tactic(auto)]
 
 mod batch;
+mod claims;
+mod discard;
 mod held;
 pub mod laws;
 mod machine;
 mod operations;
 mod page;
+mod replay;
 mod reply;
 mod restoring;
 mod service;
-mod signature;
 mod store;
+mod stored;
 
 pub use machine::run_provider;
+pub use replay::run_replay;

@@ -1,19 +1,24 @@
 //! The machine of `provider`, and its engine.
 
-ghost use Rattle.std.specs.Prelude.{◌≡◌, ◌<◌, ◌≤◌, ◌+◌, ◌^◌, IfOk, IfSome, OnOk, codes};
+ghost use Rattle.std.specs.Prelude.{◌≡◌, ◌<◌, ◌≤◌, ◌+◌, ◌++◌, ◌^◌, IfOk, IfSome, None, OnOk, codes, if◌then◌else◌, option_map};
 ghost use Rattle.coniks_proof.specs.declared.values.TheConstants.{MAX_OPERATIONS};
 ghost use Rattle.coniks_json.specs.EntryLines.{entry_in};
 ghost use Rattle.serde_json.specs.View.{view};
 ghost use Rattle.coniks_lines.specs.Runs.{IsRunOf, streams};
-ghost use Rattle.coniks_json.specs.Faults.{FailsWithBoard};
+ghost use Rattle.coniks_json.specs.Faults.{FailsOn};
 ghost use Rattle.coniks_json.specs.Members.{array_in, digits_in, if_there, number_in, text_in};
 ghost use Rattle.coniks_json.specs.Turns.{Takes};
 ghost use Rattle.coniks_provider.specs.Answers.{provider_outcome_of};
-ghost use Rattle.coniks_provider.specs.Turns.{bindings_outcome, install_turn, most_in, nothing, prepare_turn, provider_answer, provider_command_turn, provider_lookup_outcome, provider_open_turn, restore_turn, restoring_turn};
+ghost use Rattle.coniks_provider.specs.Claims.{claim_in, log_in};
+ghost use Rattle.coniks_provider.specs.Stored.{stored_line};
+ghost use Rattle.coniks_provider.specs.Turns.{claims_in, bindings_outcome, install_turn, is_logged, most_in, nothing, prepare_turn, provider_answer, provider_command_turn, provider_lookup_outcome, provider_open_turn, restore_turn, restoring_turn};
 
+use crate::batch::ReadBatch;
+use crate::claims::{claim_in, log_in};
 use crate::operations::{Elements, read_operations};
 use crate::reply::Reply;
 use crate::store::Store;
+use crate::stored::{Stored, put_store, stored_line};
 use coniks_directory::OwnedBatch;
 use coniks_json::entries::read_entry;
 use coniks_json::fault::{RunFault, of_run};
@@ -35,7 +40,7 @@ pub(crate) struct Providing<'r, T: Threads + Sync> {
     alloc: Global,
     rt: &'r T,
     parallelism: Parallelism,
-    store: Store,
+    pub(crate) store: Store,
 }
 
 /// The 64 bytes of the member `signature`, in 128 hexadecimal digits of either case.
@@ -59,10 +64,22 @@ fn most_in(object: &Value) -> Option<usize>
 }
 
 impl<'r, T: Threads + Sync> Providing<'r, T> {
+    /// Returns a machine that has opened nothing.
+    pub(crate) fn new(alloc: Global, rt: &'r T, parallelism: Parallelism) -> Self
+        ensures { result.store ≡ nothing }
+    {
+        Providing {
+            alloc,
+            rt,
+            parallelism,
+            store: Store::new(alloc),
+        }
+    }
+
     /// Opens a directory under the line's nonce and policy digest.
     fn open(&mut self, object: &Value) -> Reply
         ensures { Takes (provider_open_turn self.old.store (digits_in 32 (codes "nonce") (view object.now))
-            (digits_in 32 (codes "policy") (view object.now))) (provider_outcome_of result) self.new.store }
+            (digits_in 32 (codes "policy") (view object.now)) (log_in (view object.now))) (provider_outcome_of result) self.new.store }
     {
         let Some(nonce) = digits32(object, "nonce") else {
             return Reply::Refused(Refusal::BadMember(Member::Nonce));
@@ -70,13 +87,16 @@ impl<'r, T: Threads + Sync> Providing<'r, T> {
         let Some(policy) = digits32(object, "policy") else {
             return Reply::Refused(Refusal::BadMember(Member::Policy));
         };
-        self.store.open_with(nonce, policy)
+        let Some(is_logged) = log_in(object) else {
+            return Reply::BadLog;
+        };
+        self.store.open_with(is_logged, nonce, policy)
     }
 
     /// Prepares the update of the line's batch.
     fn prepare(&mut self, object: &Value) -> Result<Reply, AllocError>
         ensures { IfOk result (λ reply. Takes (prepare_turn self.old.store (number_in (codes "epoch") (view object.now))
-            (if_there (codes "nonce") (view object.now) (digits_in 32 (codes "nonce") (view object.now))) (array_in (codes "ops") (view object.now)))
+            (if_there (codes "nonce") (view object.now) (digits_in 32 (codes "nonce") (view object.now))) (array_in (codes "ops") (view object.now)) (claims_in (view object.now)))
             (provider_outcome_of reply) self.new.store) }
     {
         let Some(epoch) = number(object, "epoch") else {
@@ -90,12 +110,17 @@ impl<'r, T: Threads + Sync> Providing<'r, T> {
         };
         match read_operations(self.alloc, Elements::Operations, elements)? {
             Ok(read) => {
-                let batch = OwnedBatch {
-                    nonce: nonce_of(new_nonce),
-                    ops: read.ops,
-                    indices: read.indices,
+                let line = ReadBatch {
+                    epoch,
+                    batch: OwnedBatch {
+                        nonce: nonce_of(new_nonce),
+                        ops: read.ops,
+                        indices: read.indices,
+                    },
+                    body: claim_in(object, "body"),
+                    abandons: claim_in(object, "abandons"),
                 };
-                self.store.prepare(self.rt, self.parallelism, epoch, batch)
+                self.store.prepare(self.rt, self.parallelism, line)
             }
             Err(place) => Ok(Reply::Refused(Refusal::BadOperation(place))),
         }
@@ -103,11 +128,11 @@ impl<'r, T: Threads + Sync> Providing<'r, T> {
 
     /// Installs the pending update under the line's signature.
     fn install(&mut self, object: &Value) -> Result<Reply, AllocError>
-        ensures { IfOk result (λ reply. Takes (install_turn self.old.store (digits_in 64 (codes "signature") (view object.now)))
-            (provider_outcome_of reply) self.new.store) }
+        ensures { IfOk result (λ reply. Takes (install_turn self.old.store (digits_in 64 (codes "signature") (view object.now))
+            (claim_in 32 (codes "link") (view object.now))) (provider_outcome_of reply) self.new.store) }
     {
         match signature_in(object) {
-            Some(signature) => self.store.install(signature),
+            Some(signature) => self.store.install(signature, &claim_in(object, "link")),
             None => Ok(Reply::Refused(Refusal::BadMember(Member::Signature))),
         }
     }
@@ -148,11 +173,15 @@ impl<'r, T: Threads + Sync> Providing<'r, T> {
 
     /// Begins a restore from the line's entry.
     fn restore(&mut self, object: &Value) -> Result<Reply, AllocError>
-        ensures { IfOk result (λ reply. Takes (restore_turn self.old.store (entry_in (view object.now))) (provider_outcome_of reply) self.new.store) }
+        ensures { IfOk result (λ reply. Takes (restore_turn self.old.store (entry_in (view object.now)) (log_in (view object.now)))
+            (provider_outcome_of reply) self.new.store) }
     {
-        match read_entry(object) {
-            Some(entry) => self.store.restore(entry),
-            None => Ok(Reply::Refused(Refusal::BadMember(Member::Entry))),
+        let Some(entry) = read_entry(object) else {
+            return Ok(Reply::Refused(Refusal::BadMember(Member::Entry)));
+        };
+        match log_in(object) {
+            Some(is_logged) => self.store.restore(is_logged, entry),
+            None => Ok(Reply::BadLog),
         }
     }
 
@@ -165,13 +194,29 @@ impl<'r, T: Threads + Sync> Providing<'r, T> {
             return Ok(Reply::Refused(Refusal::BadMember(Member::Bindings)));
         };
         match read_operations(self.alloc, Elements::Bindings, elements)? {
-            Ok(read) => self.store.restore_more(&read),
+            Ok(read) => self.store.restore_more(read),
             Err(place) => Ok(Reply::BadBinding(place)),
         }
     }
 
+    /// Returns the line that the log stores for a line with this reply, if it stores one.
+    fn to_store<'l>(
+        &self,
+        reply: &Reply,
+        object: &Value,
+        line: &'l [u8],
+    ) -> Result<Option<Stored<'l>>, AllocError>
+        ensures { IfOk result (λ stored. option_map (λ (s : Stored). s.lead.items ++ s.rest.now) stored
+            ≡ (if is_logged self.now.store then stored_line (provider_outcome_of reply.now) (view object.now) line.now else None)) }
+    {
+        if !self.store.is_logged() {
+            return Ok(None);
+        }
+        stored_line(self.alloc, reply, object, line)
+    }
+
     /// Executes the command of an object.
-    fn command(&mut self, object: &Value) -> Result<Reply, AllocError>
+    pub(crate) fn command(&mut self, object: &Value) -> Result<Reply, AllocError>
         ensures { IfOk result (λ reply. Takes (provider_command_turn self.old.store (view object.now) (text_in (codes "cmd") (view object.now)))
             (provider_outcome_of reply) self.new.store) }
     {
@@ -186,6 +231,9 @@ impl<'r, T: Threads + Sync> Providing<'r, T> {
         }
         if name == "install" {
             return self.install(object);
+        }
+        if name == "withdraw" {
+            return Ok(self.store.withdraw());
         }
         if name == "lookup" {
             return self.lookup(object);
@@ -222,12 +270,20 @@ impl<'r, T: Threads + Sync> LineMachine for Providing<'r, T> {
     ghost Needs = { IsSync T.row };
 
     fn step(&mut self, line: &[u8], out: &mut Vec<u8>) -> Result<bool, AllocError> {
-        let reply = match read_object(self.alloc, line)? {
-            Some(object) => self.command(&object)?,
-            None => Reply::Refused(Refusal::NotJson),
+        let Some(object) = read_object(self.alloc, line)? else {
+            Reply::Refused(Refusal::NotJson)
+                .object(self.alloc)?
+                .print(out)?;
+            return Ok(false);
         };
+        let reply = self.command(&object)?;
         let is_accepted = reply.is_accepted();
-        reply.object(self.alloc)?.print(out)?;
+        let stored = self.to_store(&reply, &object, line)?;
+        let mut printed = reply.object(self.alloc)?;
+        if let Some(stored) = stored {
+            put_store(&mut printed, &stored)?;
+        }
+        printed.print(out)?;
         Ok(is_accepted)
     }
 }
@@ -240,8 +296,7 @@ impl<'r, T: Threads + Sync> LineMachine for Providing<'r, T> {
 ///
 /// # Errors
 ///
-/// The errors of `run_lines`, and `NoBoard` if the board for the directory's heads cannot be allocated. Nothing is read
-/// then.
+/// The errors of `run_lines`.
 pub fn run_provider<T: Threads + Sync, R: ByteIn, W: ByteOut>(
     rt: &T,
     alloc: Global,
@@ -251,16 +306,10 @@ pub fn run_provider<T: Threads + Sync, R: ByteIn, W: ByteOut>(
 ) -> Result<bool, RunFault>
     requires reads { (R.source reader.old).failed + 1 < 2 ^ 64 }
     requires writes { (W.sink writer.old).failed + 1 < 2 ^ 64 }
-    ensures run { IsRunOf provider_answer nothing (FailsWithBoard provider_answer nothing)
+    ensures run { IsRunOf provider_answer nothing (FailsOn provider_answer nothing)
         (streams (R.source reader.old) (R.source reader.new) (W.sink writer.old) (W.sink writer.new))
         result }
 {
-    let store = Store::new(alloc)?;
-    let mut providing = Providing {
-        alloc,
-        rt,
-        parallelism,
-        store,
-    };
+    let mut providing = Providing::new(alloc, rt, parallelism);
     of_run(run_lines(alloc, &mut providing, reader, writer))
 }

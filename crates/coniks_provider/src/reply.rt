@@ -3,7 +3,7 @@
 ghost use Rattle.std.specs.Prelude.{◌≡◌, IfOk};
 ghost use Rattle.serde_json.specs.Written.{compact_text};
 ghost use Rattle.coniks_chain.specs.Entries.{body_bytes};
-ghost use Rattle.coniks_provider.specs.Answers.{bad_binding_data, entry_data, latest_data, provider_outcome_of, prepared_data, provider_reply_text, restoring_data};
+ghost use Rattle.coniks_provider.specs.Answers.{bad_binding_data, bad_log_data, entry_data, latest_data, provider_outcome_of, prepared_data, provider_reply_text, restoring_data};
 
 use coniks_chain::{Body, Entry};
 use coniks_directory::SignedProof;
@@ -30,6 +30,8 @@ pub(crate) enum Reply {
         entry: Entry,
         link: Digest,
     },
+    /// The pending update was dropped.
+    Withdrawn,
     /// A lookup found the authentication path to the name's index in the tree of the epoch with this entry.
     LookedUp {
         name: String,
@@ -65,12 +67,20 @@ pub(crate) enum Reply {
     NotLater,
     /// The entry's version is neither 1 nor 2.
     Version,
+    /// No epoch is before the entry's, and its previous link is not 32 zero bytes.
+    Malformed,
     /// The root of the bindings is not that of the entry.
     RootDiffers,
     /// The name of the operation at this position is registered with another index.
     OtherIndex(usize),
     /// No update is pending.
     NotPrepared,
+    /// The member `log` is another format.
+    BadLog,
+    /// The line abandons another update than the pending one.
+    NotAbandoned,
+    /// The line names another body or link than its own.
+    ReplayDiffers,
     /// The name asked is registered with another index.
     BadIndex,
 }
@@ -86,6 +96,7 @@ impl Reply {
             Reply::Opened
             | Reply::Prepared { .. }
             | Reply::Installed { .. }
+            | Reply::Withdrawn
             | Reply::LookedUp { .. }
             | Reply::Latest { .. }
             | Reply::Bindings(_)
@@ -97,9 +108,13 @@ impl Reply {
             | Reply::NotRestoring
             | Reply::NotLater
             | Reply::Version
+            | Reply::Malformed
             | Reply::RootDiffers
             | Reply::OtherIndex(_)
             | Reply::NotPrepared
+            | Reply::BadLog
+            | Reply::NotAbandoned
+            | Reply::ReplayDiffers
             | Reply::BadIndex => false,
         }
     }
@@ -112,6 +127,7 @@ impl Reply {
             Reply::Opened => opened(alloc),
             Reply::Prepared { body, nodes } => prepared(alloc, &body, nodes),
             Reply::Installed { entry, link } => with_entry(alloc, "install", &entry, &link),
+            Reply::Withdrawn => object(alloc, &[Field("ok", Shown::Text("withdraw"))]),
             Reply::LookedUp { name, found } => looked_up(alloc, name.as_str(), &found),
             Reply::Latest {
                 epoch,
@@ -128,9 +144,13 @@ impl Reply {
             Reply::NotRestoring => fault(alloc, "NotRestoring"),
             Reply::NotLater => fault(alloc, "NotLater"),
             Reply::Version => fault(alloc, "Version"),
+            Reply::Malformed => fault(alloc, "Malformed"),
             Reply::RootDiffers => fault(alloc, "RootDiffers"),
             Reply::OtherIndex(position) => placed_fault(alloc, "OtherIndex", position),
             Reply::NotPrepared => fault(alloc, "NotPrepared"),
+            Reply::BadLog => bad_log(alloc),
+            Reply::NotAbandoned => fault(alloc, "NotAbandoned"),
+            Reply::ReplayDiffers => fault(alloc, "ReplayDiffers"),
             Reply::BadIndex => fault(alloc, "OtherIndex"),
         }
     }
@@ -209,6 +229,19 @@ fn bad_binding(alloc: Global, position: usize) -> Result<Printable, AllocError>
             Field("fault", Shown::Text("Member")),
             Field("member", Shown::Text("bindings")),
             Field("position", Shown::Number(position as u64)),
+        ],
+    )
+}
+
+/// Returns the object of a log of another format.
+fn bad_log(alloc: Global) -> Result<Printable, AllocError>
+    ensures { IfOk result (λ object. object.text.items ≡ compact_text bad_log_data) }
+{
+    object(
+        alloc,
+        &[
+            Field("fault", Shown::Text("Member")),
+            Field("member", Shown::Text("log")),
         ],
     )
 }

@@ -1,39 +1,61 @@
 //! The directory that a line opens, and the pending update.
 
-ghost use Rattle.std.specs.Prelude.{◌≡◌, ◌≤◌, [], length, None, Some, IfOk, OnOk, option_map};
+ghost use Rattle.std.specs.Prelude.{◌≡◌, ◌≤◌, [], length, None, Some, IfOk, OnErr, OnOk, option_map};
 ghost use Rattle.coniks_proof.specs.declared.values.TheConstants.{MAX_OPERATIONS};
-ghost use Rattle.coniks_shared.specs.Boards.{BoardEnd};
+ghost use Rattle.coniks_directory.specs.declared.batch.BatchFault.TheVariants.{OutOfMemory};
+ghost use Rattle.coniks_json.specs.Turns.{Takes};
 ghost use Rattle.coniks_provider.specs.Answers.{provider_outcome_of};
-ghost use Rattle.coniks_provider.specs.Limits.{most_provider_epochs};
-ghost use Rattle.coniks_provider.specs.Stores.{IsServing, IsSuppliedRefusable, batch_line_of, provided_of, supplied_refused_as};
-ghost use Rattle.coniks_provider.specs.Turns.{bindings_with, index_of_bytes, install_on, latest_outcome, nothing_yet, prepare_on, provider_lookup_with, provider_number_refusal, provider_refusal, serving};
+ghost use Rattle.coniks_provider.specs.Stores.{IsServing, IsSuppliedRefusable, batch_line_of, lookup_refused_as, page_refused_as, provided_of, supplied_refused_as};
+ghost use Rattle.coniks_provider.specs.Turns.{bindings_with, index_of_bytes, install_on, latest_outcome, line_refusal, may_replace, nothing_yet, pending_body, prepare_on, provider_lookup_with, provider_number_refusal, serving, withdraw_on};
 
+use crate::batch::ReadBatch;
+use crate::claims::{agrees, is_named};
 use crate::page::page_object;
 use crate::reply::Reply;
-use crate::signature::GivenSignature;
-use coniks_chain::{Body, Signature};
+use coniks_chain::{Body, Entry, Signature};
 use coniks_directory::{
-    BindingsFault, Directory, InstallFault, LookupAtFault, OwnedBatch, Prepared,
+    BindingsFault, Directory, InstallFault, LinkedEntry, LookupAtFault, Prepared,
     SuppliedBatchFault, SuppliedIndices,
 };
 use coniks_json::refusal::{Refusal, batch_refusal};
 use coniks_proof::{Index, Nonce, Sha256Hash};
-use coniks_shared::{Board, Publisher};
 use coniks_work::{Open, Parallelism};
 use std::alloc::{AllocError, Global};
 use std::thread::Threads;
 
-/// The number of heads that the board of a provider takes, which limits the number of its epochs.
-pub(crate) const BOARD_HEADS: usize = 65536;
-
 /// Returns the reply to a batch that is not accepted.
 fn supplied_refusal(fault: SuppliedBatchFault) -> Result<Reply, AllocError>
     requires { IsSuppliedRefusable fault }
-    ensures { IfOk result (λ reply. supplied_refused_as fault ≡ Some (provider_outcome_of reply)) }
+    ensures reply { IfOk result (λ reply. supplied_refused_as fault ≡ Some (provider_outcome_of reply)) }
+    ensures memory { OnErr result (fault ≡ SuppliedBatchFault.Batch OutOfMemory) }
 {
     match fault {
         SuppliedBatchFault::Batch(fault) => Ok(Reply::Refused(batch_refusal(fault)?)),
         SuppliedBatchFault::OtherIndex { position } => Ok(Reply::OtherIndex(position)),
+    }
+}
+
+/// Returns the reply to a lookup that finds nothing.
+fn lookup_refusal(fault: LookupAtFault) -> Result<Reply, AllocError>
+    ensures reply { IfOk result (λ reply. lookup_refused_as fault ≡ Some (provider_outcome_of reply)) }
+    ensures memory { OnErr result (fault ≡ LookupAtFault.OutOfMemory) }
+{
+    match fault {
+        LookupAtFault::UnknownEpoch => Ok(Reply::Refused(Refusal::UnknownEpoch)),
+        LookupAtFault::NameLength => Ok(Reply::Refused(Refusal::NameLength)),
+        LookupAtFault::OtherIndex => Ok(Reply::BadIndex),
+        LookupAtFault::OutOfMemory => Err(AllocError),
+    }
+}
+
+/// Returns the reply to a page that is not listed.
+fn page_refusal(fault: BindingsFault) -> Result<Reply, AllocError>
+    ensures reply { IfOk result (λ reply. page_refused_as fault ≡ Some (provider_outcome_of reply)) }
+    ensures memory { OnErr result (fault ≡ BindingsFault.OutOfMemory) }
+{
+    match fault {
+        BindingsFault::UnknownEpoch => Ok(Reply::Refused(Refusal::UnknownEpoch)),
+        BindingsFault::OutOfMemory => Err(AllocError),
     }
 }
 
@@ -57,32 +79,44 @@ pub(crate) struct Pending {
 /// An open directory, and the pending update.
 #[derive(Drop)]
 pub(crate) struct Service {
+    /// Whether the rules of a log hold.
+    is_logged: bool,
     directory: Directory<Sha256Hash, SuppliedIndices>,
     pending: Option<Pending>,
 }
 
 impl Service {
     /// Returns a directory without epochs.
-    pub(crate) fn open(alloc: Global, nonce: [u8; 32], policy: [u8; 32]) -> Service
-        ensures state { provided_of result ≡ nothing_yet nonce policy }
-        ensures served { (published : BoardEnd) → published.heads ≡ [] → IsServing published result.directory result.pending }
+    pub(crate) fn open(alloc: Global, is_logged: bool, nonce: [u8; 32], policy: [u8; 32]) -> Service
+        ensures state { provided_of result ≡ nothing_yet is_logged nonce policy }
+        ensures served { IsServing result }
     {
         let indices = SuppliedIndices::new(alloc);
         Service {
+            is_logged,
             directory: Directory::open(alloc, Sha256Hash, indices, Nonce(nonce), policy),
             pending: None,
         }
     }
 
     /// Returns a restored directory, in which no update is pending.
-    pub(crate) fn of(directory: Directory<Sha256Hash, SuppliedIndices>) -> Service
+    pub(crate) fn of(is_logged: bool, directory: Directory<Sha256Hash, SuppliedIndices>) -> Service
+        ensures logged { result.is_logged ≡ is_logged }
         ensures directory { result.directory ≡ directory }
         ensures pending { result.pending ≡ None }
     {
         Service {
+            is_logged,
             directory,
             pending: None,
         }
+    }
+
+    /// Returns whether the rules of a log hold.
+    pub(crate) fn is_logged(&self) -> bool
+        ensures { result ≡ (provided_of self.now).logged }
+    {
+        self.is_logged
     }
 
     /// Prepares the update of a batch, in place of the pending one.
@@ -90,76 +124,120 @@ impl Service {
         &mut self,
         rt: &T,
         parallelism: Parallelism,
-        epoch: u64,
-        batch: OwnedBatch,
-        publisher: &Publisher,
+        line: ReadBatch,
     ) -> Result<Reply, AllocError>
-        requires paired { length batch.ops.items ≡ length batch.indices.items }
-        requires served { IsServing publisher.now self.old.directory self.old.pending }
-        ensures served { IsServing publisher.now self.new.directory self.new.pending }
+        requires { IsServing self.old }
+        ensures served { IsServing self.new }
         ensures reply { IfOk result (λ reply. provider_outcome_of reply ≡
-            (prepare_on (provided_of self.old) (batch_line_of epoch batch) (provider_refusal (provided_of self.old) (batch_line_of epoch batch))).outcome) }
+            (prepare_on (provided_of self.old) (batch_line_of line) (line_refusal (provided_of self.old) (batch_line_of line))).outcome) }
         ensures state { OnOk result (serving (provided_of self.new) ≡
-            (prepare_on (provided_of self.old) (batch_line_of epoch batch) (provider_refusal (provided_of self.old) (batch_line_of epoch batch))).state) }
+            (prepare_on (provided_of self.old) (batch_line_of line) (line_refusal (provided_of self.old) (batch_line_of line))).state) }
     {
+        if !self.may_replace(&line) {
+            return Ok(Reply::NotAbandoned);
+        }
+        let ReadBatch {
+            epoch,
+            batch,
+            body: said,
+            ..
+        } = line;
         let update = match self.directory.prepare_owned(rt, batch, parallelism, &Open) {
             Ok(update) => update,
             Err(fault) => return supplied_refusal(fault),
         };
-        if let Some(refused) = self.number_refusal(epoch, publisher) {
+        if let Some(refused) = self.number_refusal(epoch) {
             return Ok(refused);
         }
-        let body = self.directory.next_body(&update, epoch, publisher);
+        let body = self.directory.next_body(&update, epoch);
+        if !agrees(&said, &body.bytes()) {
+            return Ok(Reply::ReplayDiffers);
+        }
         let nodes = update.new_nodes();
         self.pending = Some(Pending { update, body });
         Ok(Reply::Prepared { body, nodes })
     }
 
+    /// Returns whether a line may replace the pending update: if the rules of a log hold, only one that abandons it by name.
+    fn may_replace(&self, line: &ReadBatch) -> bool
+        ensures { result ≡ may_replace (provided_of self.now) (batch_line_of line.now).claims }
+    {
+        !self.is_logged || is_named(&line.abandons, &self.pending_body())
+    }
+
+    /// Returns the body of the pending update, if one is.
+    pub(crate) fn pending_body(&self) -> Option<[u8; 145]>
+        ensures { result ≡ pending_body (provided_of self.now) }
+    {
+        match &self.pending {
+            Some(pending) => Some(pending.body.bytes()),
+            None => None,
+        }
+    }
+
+    /// Returns the number of registered names.
+    pub(crate) fn names(&self) -> usize
+        ensures { result ≡ length (provided_of self.now).indices }
+    {
+        self.directory.source().count()
+    }
+
     /// Returns why no update is prepared under a number, if any.
-    fn number_refusal(&self, epoch: u64, publisher: &Publisher) -> Option<Reply>
-        requires { IsServing publisher.now self.now.directory self.now.pending }
+    fn number_refusal(&self, epoch: u64) -> Option<Reply>
         ensures { option_map provider_outcome_of result ≡ provider_number_refusal (provided_of self.now) epoch }
     {
         let latest = self.directory.latest_epoch();
         if epoch <= latest {
             return Some(Reply::Refused(Refusal::EpochNotLater { latest }));
         }
-        if publisher.published() >= BOARD_HEADS {
-            return Some(Reply::Refused(Refusal::BoardFull));
-        }
         None
     }
 
-    /// Installs the pending update with a signature.
+    /// Installs the pending update with a signature, unless its link is another one than the line names.
     pub(crate) fn install(
         &mut self,
         signature: [u8; 64],
-        publisher: &mut Publisher,
-        board: &Board,
+        said: &Option<Option<[u8; 32]>>,
     ) -> Result<Reply, AllocError>
-        requires table { publisher.old.table ≡ board.now.table }
-        requires capacity { board.now.capacity ≡ most_provider_epochs }
-        requires served { IsServing publisher.old self.old.directory self.old.pending }
-        ensures table { publisher.new.table ≡ publisher.old.table }
-        ensures served { IsServing publisher.new self.new.directory self.new.pending }
+        requires { IsServing self.old }
+        ensures served { IsServing self.new }
         ensures reply { IfOk result (λ reply. provider_outcome_of reply ≡
-            (install_on (provided_of self.old) signature (provided_of self.old).pending).outcome) }
-        ensures state { OnOk result (serving (provided_of self.new) ≡ (install_on (provided_of self.old) signature (provided_of self.old).pending).state) }
+            (install_on (provided_of self.old) signature said.now (provided_of self.old).pending).outcome) }
+        ensures state { OnOk result (serving (provided_of self.new) ≡
+            (install_on (provided_of self.old) signature said.now (provided_of self.old).pending).state) }
     {
         let Some(Pending { update, body }) = self.pending.take() else {
             return Ok(Reply::NotPrepared);
         };
-        let mut signer = GivenSignature::new(Signature(signature));
-        let installed = self
-            .directory
-            .install_supplied(update, body.t, &mut signer, publisher, board);
-        let entry = match installed {
-            Ok(entry) => entry,
+        let entry = Entry {
+            body,
+            signature: Signature(signature),
+        };
+        let linked = LinkedEntry::new(entry);
+        let link = linked.link();
+        if !agrees(said, &link.0) {
+            let pending = Pending { update, body };
+            self.pending = Some(pending);
+            return Ok(Reply::ReplayDiffers);
+        }
+        match self.directory.install_linked(update, linked) {
+            Ok(()) => {}
             Err((InstallFault::OutOfMemory, _)) => return Err(AllocError),
             Err(_) => unreachable!(),
-        };
-        let link = self.directory.latest_link(publisher);
+        }
         Ok(Reply::Installed { entry, link })
+    }
+
+    /// Drops the pending update.
+    pub(crate) fn withdraw(&mut self) -> Reply
+        requires { IsServing self.old }
+        ensures served { IsServing self.new }
+        ensures turn { Takes (withdraw_on (provided_of self.old) (provided_of self.old).pending) (provider_outcome_of result) (serving (provided_of self.new)) }
+    {
+        match self.pending.take() {
+            Some(_) => Reply::Withdrawn,
+            None => Reply::NotPrepared,
+        }
     }
 
     /// Looks a name up at an epoch and an index.
@@ -177,10 +255,7 @@ impl Service {
             .signed_lookup_at(epoch, name.as_bytes(), Index(index))
         {
             Ok(found) => found,
-            Err(LookupAtFault::UnknownEpoch) => return Ok(Reply::Refused(Refusal::UnknownEpoch)),
-            Err(LookupAtFault::NameLength) => return Ok(Reply::Refused(Refusal::NameLength)),
-            Err(LookupAtFault::OtherIndex) => return Ok(Reply::BadIndex),
-            Err(LookupAtFault::OutOfMemory) => return Err(AllocError),
+            Err(fault) => return lookup_refusal(fault),
         };
         // Read for the contract alone.
         let _chain = self.directory.chain();
@@ -201,8 +276,7 @@ impl Service {
     {
         let mut page = match self.directory.bindings(epoch, index_of(after), most + 1) {
             Ok(found) => found,
-            Err(BindingsFault::UnknownEpoch) => return Ok(Reply::Refused(Refusal::UnknownEpoch)),
-            Err(BindingsFault::OutOfMemory) => return Err(AllocError),
+            Err(fault) => return page_refusal(fault),
         };
         let more = page.len() > most;
         page.truncate(most);
@@ -210,13 +284,12 @@ impl Service {
     }
 
     /// Returns the state at the latest epoch.
-    pub(crate) fn latest(&self, publisher: &Publisher) -> Reply
-        requires { IsServing publisher.now self.now.directory self.now.pending }
+    pub(crate) fn latest(&self) -> Reply
         ensures { provider_outcome_of result ≡ latest_outcome (serving (provided_of self.now)) }
     {
         Reply::Latest {
             epoch: self.directory.latest_epoch(),
-            link: self.directory.latest_link(publisher),
+            link: self.directory.latest_link(),
             names: self.directory.source().count(),
             nodes: self.directory.nodes(),
         }

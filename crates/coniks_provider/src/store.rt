@@ -1,34 +1,30 @@
-//! What the lines have opened or restore, and the board for the heads.
+//! What the lines have opened or restore.
 
-ghost use Rattle.std.specs.Prelude.{◌≡◌, ◌≢◌, ◌≤◌, IfErr, IfOk, OnOk, false, length, true};
+ghost use Rattle.std.specs.Prelude.{◌≡◌, ◌≢◌, ◌≤◌, IfOk, OnOk, false, length, true};
 ghost use Rattle.coniks_directory.specs.SuppliedBatches.{indexed};
 ghost use Rattle.coniks_proof.specs.declared.values.TheConstants.{MAX_OPERATIONS};
-ghost use Rattle.coniks_json.specs.declared.fault.RunFault.TheVariants.{NoBoard};
+ghost use Rattle.coniks_json.specs.Turns.{Takes};
 ghost use Rattle.coniks_provider.specs.Answers.{provider_outcome_of};
+ghost use Rattle.coniks_provider.specs.Replays.{names_in, pending_in};
 ghost use Rattle.coniks_provider.specs.Stores.{batch_line_of};
-ghost use Rattle.coniks_provider.specs.Turns.{bindings_with, install_with, latest_outcome, nothing, prepare_with, provider_lookup_with, provider_open_with, restore_with, restored_turn, restoring_with};
+ghost use Rattle.coniks_provider.specs.Turns.{bindings_with, install_with, is_logged, latest_outcome, nothing, prepare_with, provider_lookup_with, provider_open_with, restore_with, restored_turn, restoring_with, withdraw_turn};
 
-use crate::batch::Operations;
-use crate::held::{Held, take_open, take_restore};
+use crate::batch::{Operations, ReadBatch};
+use crate::held::{Held, take_restore};
 use crate::reply::Reply;
 use crate::restoring::Restore;
-use crate::service::{BOARD_HEADS, Service};
+use crate::service::Service;
 use coniks_chain::Entry;
-use coniks_directory::OwnedBatch;
-use coniks_json::fault::RunFault;
 use coniks_json::refusal::Refusal;
-use coniks_shared::{Board, Publisher};
 use coniks_work::Parallelism;
 use std::alloc::{AllocError, Global};
 use std::marker::Model;
 use std::thread::Threads;
 
-/// What the lines have made, and the board for the heads. Contracts see it as the state of the run.
+/// What the lines have made. Contracts see it as the state of the run.
 #[derive(Drop)]
 pub(crate) struct Store {
     alloc: Global,
-    board: Board,
-    publisher: Publisher,
     held: Held,
 }
 
@@ -37,32 +33,22 @@ impl Model for Store {
 
     ghost Value = { ProviderState };
 
-    ghost use Rattle.coniks_provider.specs.Stores.{IsProvided, provider_state_of};
+    ghost use Rattle.coniks_provider.specs.Stores.{IsServingIf, provider_state_of};
 
     ghost view = { λ s. provider_state_of s.held };
 
-    ghost invariant = { λ s. IsProvided s.board s.publisher s.held };
+    ghost invariant = { λ s. IsServingIf s.held };
 }
 
 impl Store {
-    /// Returns a store with an empty board, in which nothing is open.
-    ///
-    /// # Errors
-    ///
-    /// `NoBoard` if the board cannot be allocated.
-    pub(crate) fn new(alloc: Global) -> Result<Store, RunFault>
-        ensures ok { IfOk result (λ store. store ≡ nothing) }
-        ensures err { IfErr result (λ fault. fault ≡ NoBoard) }
+    /// Returns a store in which nothing is open.
+    pub(crate) fn new(alloc: Global) -> Store
+        ensures { result ≡ nothing }
     {
-        let Ok((board, publisher)) = Board::new(alloc, BOARD_HEADS) else {
-            return Err(RunFault::NoBoard);
-        };
-        Ok(Store {
+        Store {
             alloc,
-            board,
-            publisher,
             held: Held::Nothing,
-        })
+        }
     }
 
     /// Returns whether nothing is open and no restore has begun.
@@ -77,14 +63,14 @@ impl Store {
     }
 
     /// Opens a directory, once.
-    pub(crate) fn open_with(&mut self, nonce: [u8; 32], policy: [u8; 32]) -> Reply
-        ensures reply { provider_outcome_of result ≡ (provider_open_with self.old nonce policy).outcome }
-        ensures state { self.new ≡ (provider_open_with self.old nonce policy).state }
+    pub(crate) fn open_with(&mut self, is_logged: bool, nonce: [u8; 32], policy: [u8; 32]) -> Reply
+        ensures reply { provider_outcome_of result ≡ (provider_open_with self.old is_logged nonce policy).outcome }
+        ensures state { self.new ≡ (provider_open_with self.old is_logged nonce policy).state }
     {
         if !self.is_free() {
             return Reply::Refused(Refusal::AlreadyOpen);
         }
-        self.held = Held::Open(Service::open(self.alloc, nonce, policy));
+        self.held = Held::Open(Service::open(self.alloc, is_logged, nonce, policy));
         Reply::Opened
     }
 
@@ -93,32 +79,70 @@ impl Store {
         &mut self,
         rt: &T,
         parallelism: Parallelism,
-        epoch: u64,
-        batch: OwnedBatch,
+        line: ReadBatch,
     ) -> Result<Reply, AllocError>
-        requires { length batch.ops.items ≡ length batch.indices.items }
-        ensures reply { IfOk result (λ reply. provider_outcome_of reply ≡ (prepare_with self.old (batch_line_of epoch batch)).outcome) }
-        ensures state { OnOk result (self.new ≡ (prepare_with self.old (batch_line_of epoch batch)).state) }
+        ensures reply { IfOk result (λ reply. provider_outcome_of reply ≡ (prepare_with self.old (batch_line_of line)).outcome) }
+        ensures state { OnOk result (self.new ≡ (prepare_with self.old (batch_line_of line)).state) }
     {
-        let Some(mut service) = take_open(&mut self.held) else {
+        let Held::Open(service) = &mut self.held else {
             return Ok(Reply::Refused(Refusal::NotOpen));
         };
-        let reply = service.prepare(rt, parallelism, epoch, batch, &self.publisher);
-        self.held = Held::Open(service);
-        reply
+        service.prepare(rt, parallelism, line)
     }
 
     /// Installs the pending update with a signature that was read.
-    pub(crate) fn install(&mut self, signature: [u8; 64]) -> Result<Reply, AllocError>
-        ensures reply { IfOk result (λ reply. provider_outcome_of reply ≡ (install_with self.old signature).outcome) }
-        ensures state { OnOk result (self.new ≡ (install_with self.old signature).state) }
+    pub(crate) fn install(
+        &mut self,
+        signature: [u8; 64],
+        link: &Option<Option<[u8; 32]>>,
+    ) -> Result<Reply, AllocError>
+        ensures reply { IfOk result (λ reply. provider_outcome_of reply ≡ (install_with self.old signature link.now).outcome) }
+        ensures state { OnOk result (self.new ≡ (install_with self.old signature link.now).state) }
     {
-        let Some(mut service) = take_open(&mut self.held) else {
+        let Held::Open(service) = &mut self.held else {
             return Ok(Reply::Refused(Refusal::NotOpen));
         };
-        let reply = service.install(signature, &mut self.publisher, &self.board);
-        self.held = Held::Open(service);
-        reply
+        service.install(signature, link)
+    }
+
+    /// Returns whether the rules of a log hold.
+    pub(crate) fn is_logged(&self) -> bool
+        ensures { result ≡ is_logged self.now }
+    {
+        match &self.held {
+            Held::Open(service) => service.is_logged(),
+            Held::Nothing | Held::Restoring(_) => false,
+        }
+    }
+
+    /// Returns the number of names of an open directory.
+    pub(crate) fn names(&self) -> usize
+        ensures { result ≡ names_in self.now }
+    {
+        match &self.held {
+            Held::Open(service) => service.names(),
+            Held::Nothing | Held::Restoring(_) => 0,
+        }
+    }
+
+    /// Returns the body of the pending update, if one is.
+    pub(crate) fn pending_body(&self) -> Option<[u8; 145]>
+        ensures { result ≡ pending_in self.now }
+    {
+        match &self.held {
+            Held::Open(service) => service.pending_body(),
+            Held::Nothing | Held::Restoring(_) => None,
+        }
+    }
+
+    /// Drops the pending update.
+    pub(crate) fn withdraw(&mut self) -> Reply
+        ensures { Takes (withdraw_turn self.old) (provider_outcome_of result) self.new }
+    {
+        match &mut self.held {
+            Held::Open(service) => service.withdraw(),
+            Held::Nothing | Held::Restoring(_) => Reply::Refused(Refusal::NotOpen),
+        }
     }
 
     /// Looks a name up at an epoch and an index.
@@ -141,7 +165,7 @@ impl Store {
         ensures { provider_outcome_of result ≡ latest_outcome self.now }
     {
         match &self.held {
-            Held::Open(service) => service.latest(&self.publisher),
+            Held::Open(service) => service.latest(),
             Held::Nothing | Held::Restoring(_) => Reply::Refused(Refusal::NotOpen),
         }
     }
@@ -163,14 +187,14 @@ impl Store {
     }
 
     /// Begins to restore the directory of an entry, once.
-    pub(crate) fn restore(&mut self, entry: Entry) -> Result<Reply, AllocError>
-        ensures reply { IfOk result (λ reply. provider_outcome_of reply ≡ (restore_with self.old entry).outcome) }
-        ensures state { OnOk result (self.new ≡ (restore_with self.old entry).state) }
+    pub(crate) fn restore(&mut self, is_logged: bool, entry: Entry) -> Result<Reply, AllocError>
+        ensures reply { IfOk result (λ reply. provider_outcome_of reply ≡ (restore_with self.old is_logged entry).outcome) }
+        ensures state { OnOk result (self.new ≡ (restore_with self.old is_logged entry).state) }
     {
         if !self.is_free() {
             return Ok(Reply::Refused(Refusal::AlreadyOpen));
         }
-        match Restore::begin(self.alloc, entry)? {
+        match Restore::begin(self.alloc, is_logged, entry)? {
             Ok(restore) => {
                 self.held = Held::Restoring(restore);
                 Ok(Reply::Restore)
@@ -180,17 +204,15 @@ impl Store {
     }
 
     /// Adds bindings that were read to the restore that has begun.
-    pub(crate) fn restore_more(&mut self, read: &Operations) -> Result<Reply, AllocError>
+    pub(crate) fn restore_more(&mut self, read: Operations) -> Result<Reply, AllocError>
         ensures reply { IfOk result (λ reply. provider_outcome_of reply ≡
-            (restoring_with self.old (indexed read.now.ops.items read.now.indices.items)).outcome) }
-        ensures state { OnOk result (self.new ≡ (restoring_with self.old (indexed read.now.ops.items read.now.indices.items)).state) }
+            (restoring_with self.old (indexed read.ops.items read.indices.items)).outcome) }
+        ensures state { OnOk result (self.new ≡ (restoring_with self.old (indexed read.ops.items read.indices.items)).state) }
     {
-        let Some(mut restore) = take_restore(&mut self.held) else {
+        let Held::Restoring(restore) = &mut self.held else {
             return Ok(Reply::NotRestoring);
         };
-        let reply = restore.add(read);
-        self.held = Held::Restoring(restore);
-        reply
+        restore.add(read)
     }
 
     /// Opens the directory that is restored.
@@ -207,7 +229,7 @@ impl Store {
         let Some(restore) = take_restore(&mut self.held) else {
             return Ok(Reply::NotRestoring);
         };
-        let (held, reply) = restore.finish(rt, parallelism, &mut self.publisher, &self.board)?;
+        let (held, reply) = restore.finish(rt, parallelism)?;
         self.held = held;
         Ok(reply)
     }

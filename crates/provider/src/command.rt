@@ -3,9 +3,9 @@
 ghost use Rattle.std.specs.Prelude.{◌≡◌, IfOk};
 ghost use Rattle.clap.specs.Words.{app_of};
 ghost use Rattle.coniks_cli.specs.Commands.{IsCommand, IsOption};
-ghost use Rattle.provider.specs.Command.{depth_rule, provider, top, workers_rule};
+ghost use Rattle.provider.specs.Command.{depth_rule, provider, replay_rule, top, workers_rule};
 
-use clap::{Arg, Command};
+use clap::{Arg, ArgAction, Command};
 use coniks_cli::with_option;
 use coniks_work::{MAX_DEPTH, MAX_WORKERS};
 use std::alloc::{AllocError, Global};
@@ -14,10 +14,12 @@ use std::alloc::{AllocError, Global};
 const EXAMPLE: &str =
     "A service starts the program as a child process, computes the index of each name by its own verifiable
 random function, and signs each epoch's body by its own key. Each line is a JSON object, and gives one
-line: open, prepare, install, lookup, latest, bindings, restore, restoring, restored (docs/FORMATS.md).
+line: open, prepare, install, withdraw, lookup, latest, bindings, restore, restoring, restored
+(docs/FORMATS.md).
 
-Example:
+Examples:
   ./provider < examples/provider.jsonl
+  cat LOG.snapshot LOG | ./provider --replay
 
 Status:
   0  every line was accepted
@@ -52,6 +54,18 @@ fn depth_option<'a>(alloc: Global) -> Arg<'a>
         .help("The split depth in bits, 0 to 12")
 }
 
+/// Returns the option `--replay`.
+fn replay_option<'a>(alloc: Global) -> Arg<'a>
+    ensures { IsOption replay_rule result }
+{
+    Arg::new(alloc, "replay")
+        .long("replay")
+        .action(ArgAction::SetTrue)
+        .help(
+            "Replays a log, or a snapshot and its log, from standard input, and prints the epoch and the link that it ends in",
+        )
+}
+
 /// Returns the command without its options.
 fn bare_command<'a>(alloc: Global) -> Command<'a>
     ensures { IsCommand top result }
@@ -67,5 +81,6 @@ pub(crate) fn command<'a>(alloc: Global) -> Result<Command<'a>, AllocError>
     ensures { IfOk result (λ command. app_of command ≡ provider) }
 {
     let with_workers = with_option(Ok(bare_command(alloc)), workers_option(alloc));
-    with_option(with_workers, depth_option(alloc))
+    let with_depth = with_option(with_workers, depth_option(alloc));
+    with_option(with_depth, replay_option(alloc))
 }

@@ -4,25 +4,42 @@ ghost use Rattle.std.specs.Prelude.{◌≡◌, ◌<◌, ◌+◌, ◌^◌, map};
 ghost use Rattle.coniks_cli.specs.Endings.{IsOutcome, unread_status};
 ghost use Rattle.coniks_cli.specs.Telling.{Tells};
 ghost use Rattle.coniks_lines.specs.Runs.{streams};
-ghost use Rattle.provider.specs.Program.{Ends, fault_line, unread_line};
+ghost use Rattle.provider.specs.Program.{Ends, RunsBy, fault_line, unread_line};
 
 use crate::ending::{told, unread_text};
-use crate::settings::settings_of;
+use crate::settings::{Settings, settings_of};
 use coniks_cli::{Ending, Unread, WordsFault, explain, status, tell, tell_if};
 use coniks_json::fault::RunFault;
 use coniks_lines::{ByteIn, ByteOut};
-use coniks_provider::run_provider;
+use coniks_provider::{run_provider, run_replay};
 use std::alloc::Global;
 use std::convert::AsStr;
 use std::thread::Threads;
+
+/// Answers the lines of the reader, or replays them.
+fn run<T: Threads + Sync, R: ByteIn, W: ByteOut>(
+    rt: &T,
+    alloc: Global,
+    reader: &mut R,
+    writer: &mut W,
+    settings: Settings,
+) -> Result<bool, RunFault>
+    requires reads { (R.source reader.old).failed + 1 < 2 ^ 64 }
+    requires writes { (W.sink writer.old).failed + 1 < 2 ^ 64 }
+    ensures { RunsBy settings.is_replay (streams (R.source reader.old) (R.source reader.new) (W.sink writer.old) (W.sink writer.new)) result }
+{
+    if settings.is_replay {
+        return run_replay(rt, alloc, reader, writer, settings.parallelism);
+    }
+    run_provider(rt, alloc, reader, writer, settings.parallelism)
+}
 
 /// Runs the program for a command line, and returns its exit status. The first argument is the program's name.
 ///
 /// - 0: every line was accepted, or help or the version was asked for and written to `writer`.
 /// - 1: a line was refused.
 /// - 2: `clap` refused the arguments. Its text is written to `errors`.
-/// - 3: a read or a write failed, an allocation failed, or the board could not be allocated. `errors` gets a line with the
-///   cause.
+/// - 3: a read or a write failed, or an allocation failed. `errors` gets a line with the cause.
 ///
 /// A failure of `errors` changes no status.
 pub(crate) fn program<T: Threads + Sync, S: AsStr, R: ByteIn, W: ByteOut, E: ByteOut>(
@@ -40,7 +57,7 @@ pub(crate) fn program<T: Threads + Sync, S: AsStr, R: ByteIn, W: ByteOut, E: Byt
         fault_line (E.sink errors.old) (E.sink errors.new) result }
 {
     let outcome = match settings_of(rt, alloc, words) {
-        Ok(parallelism) => match run_provider(rt, alloc, reader, writer, parallelism) {
+        Ok(settings) => match run(rt, alloc, reader, writer, settings) {
             Ok(all) => Ok(Ending::Done(all)),
             Err(fault) => Err(fault),
         },

@@ -1,10 +1,10 @@
 //! Reads the command line.
 
-ghost use Rattle.std.specs.Prelude.{◌≡◌, [], IfErr, OnOk, map, true};
-ghost use Rattle.clap.specs.Words.{fault_of, takes};
+ghost use Rattle.std.specs.Prelude.{◌≡◌, [], IfErr, IfOk, OnOk, map, true};
+ghost use Rattle.clap.specs.Words.{fault_of, found_of, rows_of, takes};
 ghost use Rattle.coniks_cli.specs.Refusals.{IsRefusal};
 ghost use Rattle.coniks_cli.specs.declared.refusing.WordsFault.TheVariants.{OutOfMemory};
-ghost use Rattle.provider.specs.Command.{provider};
+ghost use Rattle.provider.specs.Command.{has_flag, is_replay, provider};
 
 use crate::command::command;
 use clap::ArgMatches;
@@ -14,7 +14,15 @@ use std::alloc::Global;
 use std::convert::AsStr;
 use std::thread::{self, Threads};
 
-/// Returns the parallelism of a command line, whose first argument is the program's name.
+/// What a command line sets.
+#[derive(Clone, Copy)]
+pub(crate) struct Settings {
+    pub(crate) parallelism: Parallelism,
+    /// Whether a log is replayed.
+    pub(crate) is_replay: bool,
+}
+
+/// Returns the settings of a command line, whose first argument is the program's name.
 ///
 /// # Errors
 ///
@@ -25,8 +33,10 @@ pub(crate) fn settings_of<T: Threads, S: AsStr>(
     rt: &T,
     alloc: Global,
     words: &[S],
-) -> Result<Parallelism, WordsFault>
+) -> Result<Settings, WordsFault>
     ensures faultless { OnOk result (fault_of provider (map S.text words.entry.now) ≡ []) }
+
+    ensures replay { IfOk result (λ s. s.is_replay ≡ is_replay (map S.text words.entry.now)) }
 
     // Arguments that `clap` accepts are refused only if an allocation fails, others also for their error.
     ensures passes { IfErr result (λ fault. takes provider (map S.text words.entry.now) ≡ true → fault ≡ OutOfMemory) }
@@ -39,17 +49,30 @@ pub(crate) fn settings_of<T: Threads, S: AsStr>(
         Ok(found) => found,
         Err(error) => return Err(refused(error)),
     };
-    Ok(settings_by(rt, &found))
+    Ok(Settings {
+        parallelism: parallelism_by(rt, &found),
+        is_replay: has_flag(&found, "replay"),
+    })
 }
 
 /// Returns the parallelism of the options that were found.
-fn settings_by<T: Threads>(rt: &T, found: &ArgMatches<'_>) -> Parallelism {
+fn parallelism_by<T: Threads>(rt: &T, found: &ArgMatches<'_>) -> Parallelism {
     let workers = match number(found, "workers") {
         Some(number) => number,
         None => processors(rt),
     };
     let depth = number(found, "depth").unwrap_or(MAX_DEPTH);
     Parallelism::nearest(workers, depth)
+}
+
+/// Returns whether a flag is set.
+fn has_flag(found: &ArgMatches<'_>, name: &str) -> bool
+    ensures { result ≡ has_flag (rows_of (found_of found.now)) name.now }
+{
+    match found.get_str(name) {
+        Some(value) => value == "true",
+        None => false,
+    }
 }
 
 /// Returns the number of an option, if it is set.

@@ -1,17 +1,8 @@
-use Rattle.std.proofs.Common.{◌≡◌, subst}
-use Rattle.coniks_lines.specs.Runs.{IsRunOf, streams}
 use Rattle.coniks_lines.proofs.Lemmas.{run_of}
-use Rattle.coniks_json.specs.Faults.{FailsWithBoard, of_run}
 use Rattle.coniks_json.proofs.Lemmas.{run_is}
-use Rattle.coniks_provider.specs.Turns.{ProviderState, provider_answer}
+use Rattle.coniks_provider.specs.Turns.{provider_answer}
 use Rattle.coniks_provider.proofs.machine.run_provider.Goals as goal
 
 pub returns : goal.returns
-returns g c =
-    let from = g.R.ByteIn.source in
-    let to = g.W.ByteOut.sink in
-    let io = streams (from c.args.reader.now) (from c.run_lines.new.reader) (to c.args.writer.now) (to c.run_lines.new.writer) in
-    record {
-      run = rw c.of_run.ensures (subst (λ (s : ProviderState). IsRunOf provider_answer s (FailsWithBoard provider_answer s) io (of_run c.run_lines.result)) c.in_ok-store.ensures.ok
-          (run_is (λ io. (io.from' ≡ io.from) × (io.to' ≡ io.to)) c.run_lines.result (run_of provider_answer _ c.run_lines.result c.run_lines.ensures.ok c.run_lines.ensures.err)));
-    }
+returns g c = rw (← c.new-providing.ensures, c.of_run.ensures)
+    (record { run = run_is (λ _. ⊥) c.run_lines.result (run_of provider_answer _ c.run_lines.result c.run_lines.ensures.ok c.run_lines.ensures.err) })

@@ -1,7 +1,7 @@
 use Rattle.std.proofs.Common.{◌∙◌, inl, inr, map, refl, sym}
 use Rattle.coniks_cli.proofs.Lemmas.{explains_for}
 use Rattle.provider.specs.Command.{provider}
-use Rattle.provider.proofs.program.program.Goals.{in-Ok+in-Ok-run_provider, in-Ok+in-Err, in-Err-Clap+in-Some-1, in-Err-Clap+in-None-1, in-Err-OutOfMemory}
+use Rattle.provider.proofs.program.program.Goals.{in-Ok+in-Ok-run, in-Ok+in-Err, in-Err-Clap+in-Some-1, in-Err-Clap+in-None-1, in-Err-OutOfMemory}
 use Rattle.provider.proofs.program.program.Goals as goal
 
 pub returns : goal.returns
@@ -11,10 +11,10 @@ returns g c =
     record {
       outcome = c.match-settings_of.outcome;
       ends = elim c.match-settings_of.branch [
-        | in-Ok+in-Ok-run_provider w ↦ rw (w.reader-is, w.writer-is, w.outcome-is)
-            (inl (w.in-Ok.ensures.faultless, w.in-Ok-run_provider.ensures.run.ok))
+        | in-Ok+in-Ok-run w ↦ rw (w.reader-is, w.writer-is, w.outcome-is)
+            (inl (w.in-Ok.ensures.faultless, rw w.in-Ok.ensures.replay at w.in-Ok-run.ensures))
         | in-Ok+in-Err w ↦ rw (w.reader-is, w.writer-is, w.outcome-is)
-            (inl (w.in-Ok.ensures.faultless, w.in-Err.ensures.run.err))
+            (inl (w.in-Ok.ensures.faultless, rw w.in-Ok.ensures.replay at w.in-Err.ensures))
         | in-Err-Clap+in-Some-1 w ↦ rw (w.reader-is, w.writer-is, w.outcome-is)
             (inr (inl (explains_for provider words _ _ w.in-Err-Clap.error (rw w.in-Err-Clap.field-0-is at w.in-Err-Clap.ensures.refused)
             (λ taken. sym w.in-Err-Clap.field-0-is ∙ w.in-Err-Clap.ensures.passes taken) (w.explain-outcome.ensures from))))

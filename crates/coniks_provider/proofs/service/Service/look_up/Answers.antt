@@ -18,7 +18,7 @@ returns c =
     let same = c.as_bytes.ensures.value in
     let may = rw same at c.in-Ok.ensures.may in
     let found = rw same at c.in-Ok.ensures.ok in
-    let suits = found (index_with o name index) (agree_with s.directory s.pending name index may, index_here o name index) in
+    let suits = found (index_with o name index) (agree_with s.is_logged s.directory s.pending name index may, index_here o name index) in
     ap (λ (i : Index). looked_up it.entry i.0 (string_bytes c.in_ok-name.name) (path_of it.proof)) c.in-Ok.ensures.index
     ∙ ap (λ (t : List ℕ). looked_up it.entry index t (path_of it.proof)) c.in_ok-name.ensures.ok
     ∙ found_is o c.args.epoch name index it.entry it.proof c.in-Ok.ensures.entry (not_other o name index may) suits
