@@ -1,9 +1,8 @@
 // Package coniks is the client's side of a CONIKS key directory: it checks proofs, audits a chain of signed entries and
-// monitors names. Its Provider is the other side: it runs a directory by the program `provider`.
+// monitors names.
 //
-// The client's side calls the proved C library and decides nothing itself. It verifies no signatures: verify each one and pass
-// the result, or use the module example.org/coniks/client, which takes all steps of a lookup. Build the library first with
-// embed/build. A Provider needs neither the library nor cgo.
+// It calls the proved C library and decides nothing itself. It verifies no signatures: verify each one and pass the result, or
+// use the module example.org/coniks/client, which takes all steps of a lookup. Build the library first with embed/build.
 package coniks
 
 /*
@@ -159,6 +158,12 @@ func (it *Auditor) Reset() {
 // Feed accepts an entry that follows the last one. After an error the auditor is unchanged.
 func (it *Auditor) Feed(entry []byte, signatureIsGood bool) error {
 	return refused(C.coniks_auditor_feed(&it.state, start(entry), size(entry), verdict(signatureIsGood)))
+}
+
+// Head is the number of an epoch and the link of its entry, as Auditor.Head returns them.
+type Head struct {
+	Epoch uint64
+	Link  [32]byte
 }
 
 // Head returns the epoch and the link of the last entry accepted, and ErrNoEntry before the first.

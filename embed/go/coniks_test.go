@@ -1,5 +1,3 @@
-//go:build cgo
-
 package coniks
 
 import (
@@ -109,40 +107,5 @@ func TestTextsOfSeen(t *testing.T) {
 		if seen.String() != want {
 			t.Error(seen.String(), want)
 		}
-	}
-}
-
-// The checker accepts the bytes of the proofs that the program `provider` printed.
-func TestCheckAcceptsProofBytes(t *testing.T) {
-	keys := 0
-	for _, it := range vectors(t) {
-		if it.Line == "" {
-			continue
-		}
-		said, err := answerOf([]byte(it.Line), "lookup")
-		if err != nil {
-			t.Fatal(err)
-		}
-		found, err := foundOf([]byte(it.Line), said.Name, *(*[32]byte)(said.Index), said.Epoch)
-		if err != nil {
-			t.Fatal(err)
-		}
-		proof, err := ProofBytes(found.Proof)
-		if err != nil {
-			t.Fatal(err)
-		}
-		key, err := Check(found.Nonce, found.Root, found.Index, found.Name, proof)
-		if err != nil || (key != nil) != (proof[0] == 2) {
-			t.Error(it.Line, key, err)
-		}
-		if key != nil {
-			keys++
-		}
-		if _, err := Check(found.Nonce, found.Nonce, found.Index, found.Name, proof); !errors.Is(err, ErrRootMismatch) {
-			t.Error(err)
-		}
-	}
-	if keys == 0 {
-		t.Error("no key")
 	}
 }

@@ -6,11 +6,13 @@ import (
 	"encoding/hex"
 	"errors"
 	"fmt"
-	"math/bits"
 	"regexp"
 	"strconv"
 	"time"
 )
+
+// ErrNoClock is the error of EpochAt for a policy without a clock.
+var ErrNoClock = errors.New("the policy has no clock, so no epoch belongs to a time")
 
 // Policy is what a directory promises for its life. Its text is the policy document, whose SHA-256 is the policy digest of each
 // body. docs/FORMATS.md defines the text.
@@ -118,22 +120,6 @@ func (it Policy) MarshalText() ([]byte, error) {
 func (it Policy) Digest() ([32]byte, error) {
 	text, err := it.MarshalText()
 	return sha256.Sum256(text), err
-}
-
-// IsPromised reports whether proofs of an older epoch are promised at a time. The epoch that follows it in the chain has the
-// number following. Without a clock they are promised for ever, unless ProofsKept is 0.
-func (it Policy) IsPromised(following uint64, at time.Time) bool {
-	if it.ProofsKept == nil || it.EpochPeriod == 0 {
-		return it.ProofsKept == nil || *it.ProofsKept > 0
-	}
-	seconds := at.Unix()
-	if seconds < 0 {
-		return true
-	}
-	above, until := bits.Mul64(following-1, it.EpochPeriod)
-	until, first := bits.Add64(until, it.EpochStart, 0)
-	until, second := bits.Add64(until, *it.ProofsKept, 0)
-	return above+first+second > 0 || uint64(seconds) < until
 }
 
 // EpochAt returns the number of the epoch at a time. It returns ErrNoClock if the policy has no clock, and another error before

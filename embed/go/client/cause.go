@@ -1,6 +1,10 @@
 package client
 
+// #include <coniks_core.h>
+import "C"
+
 import (
+	"errors"
 	"fmt"
 
 	"example.org/coniks"
@@ -217,4 +221,63 @@ func refusal(cause Cause) *Refusal {
 		return &Refusal{Cause: cause, Status: coniks.Refused(cause)}
 	}
 	return &Refusal{Cause: cause}
+}
+
+// refused returns the refusal of a status of the core, nil for success.
+func refused(status C.uint32_t) error {
+	if status == 0 {
+		return nil
+	}
+	return refusal(Cause(status))
+}
+
+var errEmptyKey = errors.New("an expected key has at least one byte: pass nil to expect none")
+
+// misuses are the texts of calls that the caller must not make, by the status of the core.
+var misuses = map[C.uint32_t]string{
+	otherWatch:  "this client watches another name or key: call Expect, or make another client",
+	notWatching: "no name is watched: call Watch first",
+	sameKey:     "the new key is the one that is expected already",
+	noAuditor:   "the trust document has no such auditor",
+	expectedKey: "an expected key has less than 2^32 bytes",
+	manyHeads:   "at most 64 auditors vouch for an entry",
+}
+
+// misuse returns the error of a call that the caller must not make, nil for the status of success.
+func (it *memory) misuse(status C.uint32_t, name string) error {
+	switch status {
+	case 0:
+		return nil
+	case nameLength:
+		return fmt.Errorf("a name has 1 to 255 bytes, not %d", len(name))
+	case changeOpen:
+		return fmt.Errorf("another change is expected by epoch %d: expect the next one after it", it.changes[len(it.changes)-1].firstNew)
+	case notLater:
+		return fmt.Errorf("epoch %d is in the chain: expect the new key by a later one", it.latestEpoch())
+	}
+	return errors.New(misuses[status])
+}
+
+// nameOf returns the name of a number, or the number if it has none.
+func nameOf(names []string, kind string, number uint8) string {
+	if int(number) < len(names) && names[number] != "" {
+		return names[number]
+	}
+	return fmt.Sprintf("%s(%d)", kind, number)
+}
+
+func (it Comparison) String() string {
+	if it < Equal || it > Differs {
+		return "invalid"
+	}
+	return []string{Equal: "equal", Unknown: "unknown", Differs: "differs"}[it]
+}
+
+func (it Watched) String() string {
+	names := []string{Unwatched: "unwatched", Same: "same", Changed: "changed", Absent: "absent", Missing: "missing"}
+	return nameOf(names, "Watched", uint8(it))
+}
+
+func (it Verdict) String() string {
+	return nameOf([]string{"", "changed", "missing", "lost", "unwatched", "unconfirmed", "good"}, "Verdict", uint8(it))
 }

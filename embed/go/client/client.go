@@ -79,36 +79,35 @@ type Client struct {
 	memory        memory
 }
 
+// locked begins a call, and returns what ends it.
+func (it *Client) locked() (unlock func()) {
+	it.mutex.Lock()
+	return it.mutex.Unlock
+}
+
 // New returns a client that has no entry: the first one that it accepts begins the chain.
 func New(settings Settings) (*Client, error) {
 	signatures, indices, err := settings.schemes()
 	if err != nil {
 		return nil, err
 	}
-	it := &Client{signatures: signatures, indices: indices}
-	if it.digest, err = settings.digest(); err != nil {
+	digest, err := settings.digest()
+	if err != nil {
 		return nil, err
 	}
-	if it.clock, err = newClock(settings); err != nil {
+	clock, err := newClock(settings)
+	if err != nil {
 		return nil, err
 	}
-	if err := it.trustIn(settings.Trust); err != nil {
-		return nil, err
+	it := &Client{signatures: signatures, indices: indices, digest: digest, clock: clock}
+	if trust := settings.Trust; trust != nil {
+		it.trust, it.quorum = trust.Digest, quorumOf(trust.Auditors, trust.Faulty)
+		if it.quorum == 0 {
+			return nil, errors.New("more than three auditors are needed for each one that may be faulty")
+		}
+		it.memory = newMemory(int(trust.Auditors))
 	}
 	return it, nil
-}
-
-// trustIn takes the trust document, and makes a mark for each of its auditors.
-func (it *Client) trustIn(trust *Trust) error {
-	if trust == nil {
-		return nil
-	}
-	it.trust, it.quorum = trust.Digest, quorumOf(trust.Auditors, trust.Faulty)
-	if it.quorum == 0 {
-		return errors.New("more than three auditors are needed for each one that may be faulty")
-	}
-	it.memory = newMemory(int(trust.Auditors))
-	return nil
 }
 
 // Resume returns a client that goes on from the State of another one, of the same directory. The marks of its auditors are those of the
@@ -135,17 +134,7 @@ func Vouched(settings Settings, entry []byte, heads map[string]coniks.Head, leas
 	if least < 1 {
 		return nil, errors.New("at least one auditor vouches for an entry: pass how many must")
 	}
-	rows := make([]coniks.Head, 0, len(heads))
-	for _, head := range heads {
-		rows = append(rows, head)
-	}
-	now, err := it.clock.now()
-	if err != nil {
-		return nil, err
-	}
-	entry = copied(entry)
-	status, why := it.memory.begin(&it.digest, rows, least, entry, it.entryVerdict(entry), uint64(now.Unix()))
-	if err := it.accepted(status, why, entry); err != nil {
+	if err := it.accept(copied(entry), it.memory.starting(heads, least)); err != nil {
 		return nil, err
 	}
 	return it, nil
@@ -160,4 +149,21 @@ func (it *Settings) digest() ([32]byte, error) {
 		return *it.Digest, nil
 	}
 	return it.Policy.Digest()
+}
+
+// State returns all that the client keeps, for Resume: 110 bytes, 218 for each epoch, 9 for each alarm, 8 for each auditor, and those of
+// the watched name. Store it after each call that may change it, also after an error: Feed keeps the entries before the one that it
+// refuses. A client that goes on from an older state has forgotten what was accepted since.
+func (it *Client) State() []byte {
+	defer it.locked()()
+	return it.memory.state(&it.digest, &it.trust)
+}
+
+// resume takes a state. It verifies the whole chain, and takes all of it or nothing.
+func (it *Client) resume(state []byte) error {
+	status, needs := stateNeeds(&it.digest, state)
+	if status == 0 {
+		status = it.memory.read(&it.digest, &it.trust, state, needs, it.stateVerdicts(state, needs))
+	}
+	return refused(status)
 }

@@ -51,6 +51,9 @@ func TestExamplesOfFormats(t *testing.T) {
 	if &all[0].Key[0] != &all[1].Key[0] {
 		t.Error("a key that a history repeats is one slice")
 	}
+	if cap(all[0].Key) != 1 {
+		t.Error("what is appended to a key of a history changes the history")
+	}
 }
 
 // The state of docs/FORMATS.md with an alarm and marks, and what becomes of both.

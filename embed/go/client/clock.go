@@ -1,53 +1,60 @@
 package client
 
+// #include <coniks_core.h>
+import "C"
+
 import (
 	"errors"
 	"math"
-	"math/big"
+	"math/bits"
 	"time"
 )
 
 // defaultSkew is in seconds.
 const defaultSkew = 300
 
-// clock is the caller's, with the policy's start and period, and the client's limits in whole seconds. The period is 0 without a clock of
-// the policy. proofsKept is the number of seconds for which proofs are kept, nil for ever.
+// clock is the caller's, with the policy's clock and the client's limits as the core takes them, before the time is known, and how long the
+// policy promises proofs.
 type clock struct {
-	read          func() time.Time
-	start, period uint64
-	maxAge, skew  uint64
-	proofsKept    *uint64
+	read    func() time.Time
+	present C.coniks_present
+	promise C.coniks_promise
 }
 
-func newClock(settings Settings) (clock, error) {
-	it := clock{read: settings.Clock, skew: defaultSkew}
+func newClock(settings Settings) (it clock, err error) {
+	it.read = settings.Clock
 	if it.read == nil {
 		it.read = time.Now
 	}
-	if settings.Policy != nil {
-		it.start, it.period = settings.Policy.EpochStart, settings.Policy.EpochPeriod
-		if kept := settings.Policy.ProofsKept; kept != nil {
-			seconds := *kept
-			it.proofsKept = &seconds
+	var period uint64
+	if policy := settings.Policy; policy != nil {
+		it.present.start, period = C.uint64_t(policy.EpochStart), policy.EpochPeriod
+		if kept := policy.ProofsKept; kept != nil {
+			it.promise.is_limited, it.promise.seconds = 1, C.uint64_t(*kept)
 		}
+	}
+	if period > 0 {
+		it.present.has_clock, it.present.period = 1, C.uint64_t(period)
 	}
 	// No epoch is older than 2^64 seconds.
-	it.maxAge = math.MaxUint64
-	if it.period <= math.MaxUint64/2 {
-		it.maxAge = 2 * it.period
+	if period > math.MaxUint64/2 {
+		period = math.MaxUint64 / 2
 	}
-	for _, limit := range []struct {
-		given *time.Duration
-		taken *uint64
-	}{{settings.MaxAge, &it.maxAge}, {settings.Skew, &it.skew}} {
-		if limit.given != nil {
-			if *limit.given < 0 {
-				return clock{}, errors.New("MaxAge and Skew are at least 0: set another, or nil")
-			}
-			*limit.taken = uint64(*limit.given / time.Second)
-		}
+	if it.present.max_age, err = limit(settings.MaxAge, 2*period); err == nil {
+		it.present.skew, err = limit(settings.Skew, defaultSkew)
 	}
-	return it, nil
+	return it, err
+}
+
+// limit returns a limit in whole seconds, or another one if none is given.
+func limit(given *time.Duration, other uint64) (C.uint64_t, error) {
+	switch {
+	case given == nil:
+		return C.uint64_t(other), nil
+	case *given < 0:
+		return 0, errors.New("MaxAge and Skew are at least 0: set another, or nil")
+	}
+	return C.uint64_t(*given / time.Second), nil
 }
 
 // now returns the time of the caller's clock, which a state has as a number.
@@ -59,35 +66,27 @@ func (it *clock) now() (time.Time, error) {
 	return now, nil
 }
 
-func nanoseconds(seconds uint64) *big.Int {
-	return new(big.Int).Mul(new(big.Int).SetUint64(seconds), big.NewInt(int64(time.Second)))
-}
-
-// age returns for how many nanoseconds an epoch has lasted at a time, by the policy's clock, nil without one. It is below 0 if the
-// epoch has not begun.
-func (it *clock) age(epoch uint64, now time.Time) *big.Int {
-	if it.period == 0 {
-		return nil
+// at returns the policy's clock, the limits and a time, as the core takes them. A time before 1970 counts as 1970.
+func (it *clock) at(now time.Time) C.coniks_present {
+	present := it.present
+	if seconds := now.Unix(); seconds > 0 {
+		present.time = C.uint64_t(seconds)
 	}
-	age := new(big.Int).Mul(big.NewInt(now.Unix()), big.NewInt(int64(time.Second)))
-	age.Add(age, big.NewInt(int64(now.Nanosecond())))
-	age.Sub(age, nanoseconds(it.start))
-	// Epoch n begins n - 1 periods after the start. No chain has the epoch 0.
-	periods := new(big.Int).Sub(new(big.Int).SetUint64(epoch), big.NewInt(1))
-	return age.Sub(age, periods.Mul(periods, nanoseconds(it.period)))
+	return present
 }
 
-// duration returns an age for the caller, nil without a clock. One that is too long for a duration is the longest one.
+// duration returns how long ago an epoch began by the policy's clock, nil without one. It is below 0 if the epoch has not begun. One that
+// is too long for a duration is the longest one, and so is that of an epoch that begins 2^62 seconds after 1970 or later.
 func (it *clock) duration(epoch uint64, now time.Time) *time.Duration {
-	age := it.age(epoch, now)
-	if age == nil {
+	if it.present.has_clock == 0 {
 		return nil
 	}
-	duration := time.Duration(math.MaxInt64)
-	if age.IsInt64() {
-		duration = time.Duration(age.Int64())
-	} else if age.Sign() < 0 {
-		duration = math.MinInt64
+	// Epoch n begins n - 1 periods after the start. No chain has the epoch 0.
+	high, after := bits.Mul64(epoch-1, uint64(it.present.period))
+	begins, carry := bits.Add64(uint64(it.present.start), after, 0)
+	duration := time.Duration(math.MinInt64)
+	if high == 0 && carry == 0 && begins < 1<<62 {
+		duration = now.Sub(time.Unix(int64(begins), 0))
 	}
 	return &duration
 }

@@ -5,12 +5,15 @@ import (
 	"math"
 	"testing"
 	"time"
+
+	"example.org/coniks"
 )
 
 // The latest epoch is refused a second after MaxAge, and before Skew: parts of a second are left out.
 func TestAges(t *testing.T) {
 	it := newWorld(t, "AA")
 	begin, none, ten := it.start(2), time.Duration(0), 10*time.Second
+	more := ten + time.Second - 1
 	for _, wanted := range []struct {
 		maxAge, skew *time.Duration
 		last, first  time.Duration
@@ -19,6 +22,7 @@ func TestAges(t *testing.T) {
 		{&none, &none, 0, 0},
 		{&ten, nil, ten, -300 * time.Second},
 		{nil, &ten, 2 * time.Hour, -ten},
+		{&more, &more, ten, -ten},
 	} {
 		var now time.Time
 		settings := it.settings(2)
@@ -61,6 +65,7 @@ func TestGreatNumbers(t *testing.T) {
 		age                  time.Duration
 	}{
 		{math.MaxUint64, 1, 1, math.MinInt64},
+		{math.MaxUint64, 2, 2, math.MinInt64},
 		{0, math.MaxUint64, math.MaxUint64, math.MinInt64},
 		{0, math.MaxUint64, 1, 1767225600*time.Second + 1},
 		{0, 1, math.MaxUint64, math.MinInt64},
@@ -79,6 +84,11 @@ func TestGreatNumbers(t *testing.T) {
 			t.Error(wanted, *age)
 		}
 	}
+	// Two periods are more than 2^64 seconds.
+	long := worldOf(t, "A", coniks.Policy{EpochStart: 1000, EpochPeriod: 1 << 63})
+	if _, err := long.client(t, 1).Lookup("alice", long.reply(1)); err != nil {
+		t.Error(err)
+	}
 	it := newWorld(t, "A")
 	settings := it.settings(1)
 	settings.Clock = func() time.Time { return time.Unix(math.MaxInt64/int64(time.Second)*2, 0) }
@@ -93,15 +103,6 @@ func TestGreatNumbers(t *testing.T) {
 // A missing epoch is lost at the second at which its proofs end. A bare digest promises them for ever.
 func TestLost(t *testing.T) {
 	it, kept := newWorld(t, "AAA"), uint64(hour)
-	var now time.Time
-	settings := it.settings(1)
-	settings.Clock = func() time.Time { return now }
-	made, err := New(settings)
-	good(t, err)
-	good(t, made.Watch("alice", []byte("A")))
-	now = it.start(1)
-	_, err = made.Feed(it.chain)
-	good(t, err)
 	for _, wanted := range []struct {
 		kept *uint64
 		now  time.Time
@@ -118,7 +119,15 @@ func TestLost(t *testing.T) {
 		{new(uint64), time.Time{}, "[]"},
 		{nil, it.start(1000000), "[]"},
 	} {
-		made.clock.proofsKept, now = wanted.kept, wanted.now
+		it := promisingWorld(t, "AAA", wanted.kept)
+		settings, now := it.settings(1), it.start(1)
+		settings.Clock = func() time.Time { return now }
+		made, err := New(settings)
+		good(t, err)
+		good(t, made.Watch("alice", []byte("A")))
+		_, err = made.Feed(it.chain)
+		good(t, err)
+		now = wanted.now
 		if lost := made.Lost(); fmt.Sprint(lost) != wanted.lost || fmt.Sprint(made.Missing()) != "[1 2 3]" {
 			t.Error(wanted, lost)
 		}
@@ -152,14 +161,17 @@ func TestPromises(t *testing.T) {
 
 // What the caller does with the policy later changes nothing.
 func TestPolicyIsCopied(t *testing.T) {
-	it, kept := newWorld(t, "A"), uint64(hour)
-	settings := it.settings(1)
-	settings.Policy.ProofsKept = &kept
-	clock, err := newClock(settings)
+	kept := uint64(hour)
+	it := promisingWorld(t, "AAA", &kept)
+	settings := it.settings(3)
+	made, err := New(settings)
 	good(t, err)
-	kept = 0
-	if *clock.proofsKept != uint64(hour) {
-		t.Error("the time that proofs are kept changed")
+	kept, *settings.Policy = 0, coniks.Policy{}
+	good(t, made.WatchSince("alice", []byte("A"), 1))
+	_, err = made.Feed(it.chain)
+	good(t, err)
+	if lost := made.Lost(); fmt.Sprint(lost) != "[1]" {
+		t.Error("the time that proofs are kept changed", lost)
 	}
 }
 

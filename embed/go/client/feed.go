@@ -3,11 +3,7 @@ package client
 // #include <coniks_core.h>
 import "C"
 
-import (
-	"errors"
-
-	"example.org/coniks"
-)
+import "example.org/coniks"
 
 // Step is an entry that was accepted: its epoch, and Missing if that must show the watched name, until a reply does. One that is signed
 // again has what was seen of its epoch.
@@ -28,31 +24,17 @@ const (
 	Differs
 )
 
-func (it Comparison) String() string {
-	switch it {
-	case Equal:
-		return "equal"
-	case Unknown:
-		return "unknown"
-	case Differs:
-		return "differs"
-	}
-	return "invalid"
-}
-
 // Feed accepts entries that continue the chain, 209 bytes each, or the latest one signed again. It returns a *Refusal at the first one that
 // does not, and no steps; the entries before it are kept. After PreviousLink get the latest entry once more, and feed it before the next
 // one: it may have been signed again.
 func (it *Client) Feed(entries [][]byte) ([]Step, error) {
-	it.mutex.Lock()
-	defer it.mutex.Unlock()
+	defer it.locked()()
 	steps := make([]Step, 0, len(entries))
 	for _, entry := range entries {
-		step, err := it.feed(copied(entry))
-		if err != nil {
+		if err := it.accept(copied(entry), it.memory.feed); err != nil {
 			return nil, err
 		}
-		steps = append(steps, step)
+		steps = append(steps, Step{it.memory.latestEpoch(), it.memory.seenAt(it.memory.count() - 1)})
 	}
 	return steps, nil
 }
@@ -66,34 +48,30 @@ func (it *Client) FeedCatchUp(catchUp []byte) ([]Step, error) {
 	return it.Feed(entries)
 }
 
-// feed accepts one entry.
-func (it *Client) feed(entry []byte) (Step, error) {
+// accept verifies an entry, and lets the core take it.
+func (it *Client) accept(entry []byte, take taking) error {
 	now, err := it.clock.now()
 	if err != nil {
-		return Step{}, err
+		return err
 	}
-	status, why := it.memory.feed(&it.digest, entry, it.entryVerdict(entry), uint64(now.Unix()))
-	if err := it.accepted(status, why, entry); err != nil {
-		return Step{}, err
-	}
-	latest := int(it.memory.count) - 1
-	return Step{it.memory.epochAt(latest), Watched(it.memory.kept[latest].seen)}, nil
+	status, why := take(&it.digest, entry, it.entryVerdict(entry), uint64(now.Unix()))
+	return it.accepted(status, why, entry)
 }
 
 // accepted returns what a status says of an entry, with what convicts together with it.
 func (it *Client) accepted(status C.uint32_t, why C.coniks_why, entry []byte) error {
-	switch {
-	case status == 0:
+	switch status {
+	case 0:
 		return nil
-	case status == manyHeads:
-		return errors.New("at most 64 auditors vouch for an entry")
+	case manyHeads:
+		return it.memory.misuse(status, "")
 	}
-	refused := refusal(Cause(status))
+	err := refusal(Cause(status))
 	if why.status != 0 {
-		refused.Status = coniks.Refused(why.status)
+		err.Status = coniks.Refused(why.status)
 	}
-	refused.Evidence = it.evidence(why, entry)
-	return refused
+	err.Evidence = it.evidence(why, entry)
+	return err
 }
 
 // evidence returns what convicts together with an entry, nil if nothing does.
@@ -101,8 +79,8 @@ func (it *Client) evidence(why C.coniks_why, entry []byte) *Evidence {
 	if why.kind == 0 {
 		return nil
 	}
-	mine := copied(entry)
-	if place := int(why.mine); place >= 0 && place < int(it.memory.count) {
+	mine := entry
+	if place := int(why.mine); place >= 0 && place < it.memory.count() {
 		mine = it.memory.entryAt(place)
 	}
 	return &Evidence{Mine: mine, Other: copied(entry), Kind: coniks.EvidenceKind(why.kind)}
@@ -110,10 +88,9 @@ func (it *Client) evidence(why C.coniks_why, entry []byte) *Evidence {
 
 // Entries returns the entries that are kept, in the order of the chain.
 func (it *Client) Entries() [][]byte {
-	it.mutex.Lock()
-	defer it.mutex.Unlock()
-	entries := make([][]byte, 0, int(it.memory.count))
-	for place := 0; place < int(it.memory.count); place++ {
+	defer it.locked()()
+	entries := make([][]byte, 0, it.memory.count())
+	for place := 0; place < it.memory.count(); place++ {
 		entries = append(entries, it.memory.entryAt(place))
 	}
 	return entries
@@ -121,23 +98,20 @@ func (it *Client) Entries() [][]byte {
 
 // Head returns the epoch and the link of the latest entry, nil before the first.
 func (it *Client) Head() *coniks.Head {
-	it.mutex.Lock()
-	defer it.mutex.Unlock()
-	latest := int(it.memory.count) - 1
-	if latest < 0 {
+	defer it.locked()()
+	if it.memory.count() == 0 {
 		return nil
 	}
-	link, err := coniks.Link(it.memory.entryAt(latest))
+	link, err := coniks.Link(it.memory.entryAt(it.memory.count() - 1))
 	if err != nil {
 		return nil
 	}
-	return &coniks.Head{Epoch: it.memory.epochAt(latest), Link: link}
+	return &coniks.Head{Epoch: it.memory.latestEpoch(), Link: link}
 }
 
 // Compare returns whether a head is one of the chain, as far as its entries are kept.
 func (it *Client) Compare(head coniks.Head) Comparison {
-	it.mutex.Lock()
-	defer it.mutex.Unlock()
+	defer it.locked()()
 	return Comparison(it.memory.compare(head))
 }
 
@@ -145,8 +119,7 @@ func (it *Client) Compare(head coniks.Head) Comparison {
 // missing and not lost stay, with what follows them. Each dropped watched epoch that was not the same leaves an alarm. With Trust in the
 // Settings it only compares, since one auditor confirms nothing: call Mark and Drop.
 func (it *Client) Cover(head coniks.Head) Comparison {
-	it.mutex.Lock()
-	defer it.mutex.Unlock()
+	defer it.locked()()
 	found := Comparison(it.memory.compare(head))
 	if found == Equal && it.quorum == 0 {
 		it.drop([]C.uint64_t{C.uint64_t(head.Epoch)}, 1)
@@ -157,12 +130,11 @@ func (it *Client) Cover(head coniks.Head) Comparison {
 // Evidence returns what convicts the provider together with another one's entry, nil if nothing does. It returns a *Refusal if the
 // entry is not signed.
 func (it *Client) Evidence(otherEntry []byte) (*Evidence, error) {
-	it.mutex.Lock()
-	defer it.mutex.Unlock()
+	defer it.locked()()
 	entry := copied(otherEntry)
 	status, why := it.memory.evidence(entry, it.entryVerdict(entry))
 	if status != noEvidence {
-		return it.evidence(why, entry), it.accepted(status, C.coniks_why{}, entry)
+		return it.evidence(why, entry), refused(status)
 	}
 	kind, err := coniks.Convicts(entry, entry)
 	if err != nil || kind == coniks.NoEvidence {

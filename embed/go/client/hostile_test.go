@@ -3,7 +3,9 @@ package client
 import (
 	"bytes"
 	"crypto/sha256"
+	"encoding/hex"
 	"errors"
+	"fmt"
 	"runtime"
 	"sync"
 	"sync/atomic"
@@ -229,6 +231,26 @@ func TestAliasing(t *testing.T) {
 	}
 }
 
+// The evidence against a first entry has bytes of its own.
+func TestAliasingOfFirstEntries(t *testing.T) {
+	it := newWorld(t, "A")
+	digest, err := it.policy.Digest()
+	good(t, err)
+	entry := it.sign(coniks.Body{Version: 1, Policy: digest})
+	before := copied(entry)
+	_, err = Vouched(it.settings(1), entry, map[string]coniks.Head{"": it.head(1)}, 1)
+	wants(t, err, Malformed)
+	entry[20]++
+	var refusal *Refusal
+	if !errors.As(err, &refusal) || !bytes.Equal(refusal.Evidence.Mine, before) || !bytes.Equal(refusal.Evidence.Other, before) {
+		t.Fatal(err)
+	}
+	refusal.Evidence.Mine[20]++
+	if !bytes.Equal(refusal.Evidence.Other, before) {
+		t.Error("both entries of an evidence are the same bytes")
+	}
+}
+
 // What schemes return, and what they do with their arguments.
 func TestSchemes(t *testing.T) {
 	it := newWorld(t, "AA")
@@ -260,8 +282,13 @@ func TestSchemes(t *testing.T) {
 		t.Error("a scheme changed an entry")
 	}
 	reply := bytes.Join([][]byte{{1}, it.entries[2], {0, 1, 7}, it.proofs[2]}, nil)
+	history, given := []byte{1, 0, 1, 7}, copied(reply)
 	_, err = made.Lookup("alice", reply)
 	good(t, err)
+	_, err = made.History("alice", history)
+	if good(t, err); !bytes.Equal(reply, given) || history[3] != 7 {
+		t.Error("a scheme changed what the caller has")
+	}
 	state := made.State()
 	answer = false
 	_, err = made.Lookup("alice", reply)
@@ -279,6 +306,36 @@ func TestSchemes(t *testing.T) {
 	_, err = made.Feed(it.chain)
 	if wants(t, err, Signature); len(made.Entries()) > 0 {
 		t.Error("an entry without a signature is kept")
+	}
+}
+
+// Schemes are given each entry of 209 bytes once, and the proof of a reply.
+func TestGivenToSchemes(t *testing.T) {
+	var now time.Time
+	wanted, settings := readExamples(t, &now)
+	var given []string
+	keep := func(parts ...[]byte) { given = append(given, hex.EncodeToString(bytes.Join(parts, nil))) }
+	settings.SigningKey, settings.VRFKey = nil, nil
+	settings.Signatures = scheme{verify: func(body, signature []byte) bool {
+		keep(body, signature)
+		return true
+	}}
+	settings.Indices = scheme{index: func(name string, proof []byte) (index [32]byte, isValid bool) {
+		keep([]byte(name), proof)
+		return index, false
+	}}
+	made, err := New(settings)
+	good(t, err)
+	first, second, reply := unhex(t, wanted.Entries[0]), unhex(t, wanted.Entries[1]), unhex(t, wanted.Reply)
+	_, err = made.Feed([][]byte{first, second})
+	good(t, err)
+	_, err = made.Feed([][]byte{append(copied(second), 0)})
+	wants(t, err, EntryLength)
+	_, err = made.LookupAt("alice", reply, 2)
+	wants(t, err, VRFProof)
+	asked := hex.EncodeToString(append([]byte("alice"), reply[212:292]...))
+	if wanted := []string{wanted.Entries[0], wanted.Entries[1], asked}; fmt.Sprint(given) != fmt.Sprint(wanted) {
+		t.Errorf("got %s, wanted %s", given, wanted)
 	}
 }
 
@@ -382,6 +439,13 @@ func TestOneCallAtATime(t *testing.T) {
 		"Evidence":    func() { made.Evidence(it.entries[3]) },
 		"Entries":     func() { made.Entries() },
 		"State":       func() { made.State() },
+		"Alarms":      func() { made.Alarms() },
+		"Note":        func() { made.Note(0) },
+		"Report":      func() { made.Report() },
+		"Mark":        func() { made.Mark(0, it.head(1)) },
+		"Confirmed":   func() { made.Confirmed() },
+		"IsRelied":    func() { made.IsRelied(1) },
+		"Drop":        func() { made.Drop() },
 	}
 	ended := make(chan string, len(calls)+1)
 	begin := func(what string, call func()) {

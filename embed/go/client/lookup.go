@@ -36,8 +36,7 @@ func (it *Client) LookupAt(name string, reply []byte, epoch uint64) (*Found, err
 }
 
 func (it *Client) lookup(name string, whole []byte, epoch *uint64) (*Found, error) {
-	it.mutex.Lock()
-	defer it.mutex.Unlock()
+	defer it.locked()()
 	reply := copied(whole)
 	status, needs := it.memory.replyNeeds(reply)
 	if status != 0 {
@@ -48,23 +47,18 @@ func (it *Client) lookup(name string, whole []byte, epoch *uint64) (*Found, erro
 		return nil, err
 	}
 	verdicts := it.replyVerdicts(name, reply, needs)
-	status, shown, why := it.memory.lookup(&it.digest, it.clock.present(now), name, reply, epoch, verdicts)
+	status, shown, why := it.memory.lookup(&it.digest, it.clock.at(now), name, reply, epoch, verdicts)
 	if err := it.accepted(status, why, part(reply, needs.entry_start, coniks.EntryBytes)); err != nil {
 		return nil, err
 	}
-	var key []byte
-	if shown.shows == showsKey {
-		key = copied(part(reply, shown.key_start, shown.key_length))
-	}
-	found := it.found(int(shown.place), key, shown.seen, now)
+	found := it.found(shown, now)
 	return &found, nil
 }
 
 // History returns what a history shows of a name, for each of its epochs in their order. It returns nil with a *Refusal, and then
 // keeps nothing of the history.
 func (it *Client) History(name string, whole []byte) ([]Found, error) {
-	it.mutex.Lock()
-	defer it.mutex.Unlock()
+	defer it.locked()()
 	history := copied(whole)
 	status, needs := historyNeeds(history)
 	if status != 0 {
@@ -81,38 +75,13 @@ func (it *Client) History(name string, whole []byte) ([]Found, error) {
 	}
 	found := make([]Found, 0, len(steps))
 	for _, step := range steps {
-		var key []byte
-		if step.isKey {
-			// A key that a history repeats is one slice, however long it is.
-			key = history[step.from : step.from+step.length : step.from+step.length]
-		}
-		found = append(found, it.found(step.place, key, step.seen, now))
+		found = append(found, it.found(step, now))
 	}
 	return found, nil
 }
 
-func (it *Client) found(place int, key []byte, seen C.uint32_t, now time.Time) Found {
-	epoch := it.memory.epochAt(place)
-	return Found{epoch, key, Watched(seen), it.clock.duration(epoch, now), it.memory.firstSeenAt(place)}
-}
-
-// present returns the policy's clock, the limits and the time, as the core takes them.
-func (it *clock) present(now time.Time) (out C.coniks_present) {
-	if it.period > 0 {
-		out.has_clock, out.start, out.period = 1, C.uint64_t(it.start), C.uint64_t(it.period)
-	}
-	out.max_age, out.skew = C.uint64_t(it.maxAge), C.uint64_t(it.skew)
-	// A time before 1970 counts as 1970.
-	if seconds := now.Unix(); seconds > 0 {
-		out.time = C.uint64_t(seconds)
-	}
-	return out
-}
-
-// promise returns how long the policy promises proofs.
-func (it *clock) promise() (out C.coniks_promise) {
-	if it.proofsKept != nil {
-		out.is_limited, out.seconds = 1, C.uint64_t(*it.proofsKept)
-	}
-	return out
+// found returns what is shown, with what the client knows of its epoch.
+func (it *Client) found(what shown, now time.Time) Found {
+	epoch := it.memory.epochAt(what.place)
+	return Found{epoch, what.key, what.seen, it.clock.duration(epoch, now), it.memory.firstSeenAt(what.place)}
 }

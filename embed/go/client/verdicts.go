@@ -31,7 +31,7 @@ func (it *Client) replyVerdicts(name string, reply []byte, needs C.coniks_needs)
 
 // indexVerdict is that on the VRF proof of a name, with the index.
 func (it *Client) indexVerdict(name string, proof []byte) (verdicts C.coniks_verdicts) {
-	if index, isValid := it.indices.Index(name, copied(proof)); isValid {
+	if index, isValid := it.indices.Index(name, proof); isValid {
 		verdicts.index, verdicts.at = 1, *(*C.coniks_bytes32)(unsafe.Pointer(&index))
 	}
 	return verdicts
@@ -46,6 +46,8 @@ func (it *Client) stateVerdicts(state []byte, needs C.coniks_state_needs) []C.ui
 	return verdicts
 }
 
-func part(whole []byte, start, length C.size_t) []byte { return whole[start : start+length] }
+func part(whole []byte, start, length C.size_t) []byte {
+	return whole[start : start+length : start+length]
+}
 
 func copied(bytes []byte) []byte { return append([]byte(nil), bytes...) }

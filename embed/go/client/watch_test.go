@@ -3,7 +3,10 @@ package client
 import (
 	"bytes"
 	"fmt"
+	"strings"
 	"testing"
+
+	"example.org/coniks"
 )
 
 // The same watch once more changes nothing, and another one is an error.
@@ -147,6 +150,45 @@ func TestNextChange(t *testing.T) {
 		good(t, made.Watch("alice", []byte(key)))
 	}
 	misuse(t, made.Watch("alice", []byte("D")))
+}
+
+// Each call that the caller must not make has an error of its own, and that of the name comes before that of the key.
+func TestMisuses(t *testing.T) {
+	it := newWorld(t, "AA")
+	made := it.client(t, 2)
+	a, empty := []byte("A"), []byte{}
+	_, report := made.Report()
+	_, mark := made.Mark(0, it.head(1))
+	heads := map[string]coniks.Head{}
+	for at := 0; at < 65; at++ {
+		heads[fmt.Sprint(at)] = it.head(1)
+	}
+	_, vouched := Vouched(it.settings(2), it.entries[1], heads, 1)
+	for _, wanted := range []struct {
+		err  error
+		text string
+	}{
+		{report, "no name is watched"},
+		{mark, "the trust document has no such auditor"},
+		{vouched, "at most 64 auditors"},
+		{made.Expect(a, 9), "no name is watched"},
+		{made.Expect(empty, 9), "no name is watched"},
+		{made.Watch("", empty), "a name has 1 to 255 bytes, not 0"},
+		{made.Watch(strings.Repeat("a", 256), empty), "a name has 1 to 255 bytes, not 256"},
+		{made.Watch(strings.Repeat("a", 255), empty), "an expected key has at least one byte"},
+		{made.Watch("alice", empty), "an expected key has at least one byte"},
+		{made.Watch("alice", a), "<nil>"},
+		{made.Watch("bob", a), "this client watches another name or key"},
+		{made.Expect(empty, 9), "an expected key has at least one byte"},
+		{made.Expect(a, 9), "the new key is the one that is expected already"},
+		{made.Expect(nil, 2), "epoch 2 is in the chain"},
+		{made.Expect(nil, 3), "<nil>"},
+		{made.Expect(a, 9), "another change is expected by epoch 3"},
+	} {
+		if text := fmt.Sprint(wanted.err); !strings.HasPrefix(text, wanted.text) {
+			t.Errorf("got %q, wanted %q", text, wanted.text)
+		}
+	}
 }
 
 // The errors of a reply that has several, in their order.

@@ -121,10 +121,21 @@ func leafProof(name string, key []byte) (root [32]byte, proof []byte) {
 	return root, append([]byte{2, 0, 0}, bound...)
 }
 
-// newWorld is a world with alice's key at each epoch from 1 on, `-` for none.
+// newWorld is a world with alice's key at each epoch from 1 on, `-` for none. Its epochs last an hour, and it promises proofs for ever.
 func newWorld(t testing.TB, keys string) *world {
+	return worldOf(t, keys, coniks.Policy{EpochStart: 1000, EpochPeriod: hour})
+}
+
+// promisingWorld is a world that promises proofs for a number of seconds, or for ever.
+func promisingWorld(t testing.TB, keys string, kept *uint64) *world {
+	return worldOf(t, keys, coniks.Policy{EpochStart: 1000, EpochPeriod: hour, ProofsKept: kept})
+}
+
+// worldOf is a world with the clock and the promise of a policy.
+func worldOf(t testing.TB, keys string, policy coniks.Policy) *world {
 	it := &world{signing: ed25519.NewKeyFromSeed(make([]byte, 32)), entries: map[uint64][]byte{}, proofs: map[uint64][]byte{}}
-	it.policy = coniks.Policy{Origin: "example.org", EpochStart: 1000, EpochPeriod: hour}
+	it.policy = policy
+	it.policy.Origin = "example.org"
 	copy(it.policy.SigningKey[:], it.signing.Public().(ed25519.PublicKey))
 	digest, err := it.policy.Digest()
 	good(t, err)
