@@ -32,42 +32,15 @@ static uint64_t machine_clock(void *context)
 void coniks_client_begin_settings(coniks_client_settings *settings)
 {
     memset(settings, 0, sizeof *settings);
-    settings->memory.allocate = allocate;
-    settings->memory.release = release;
+    settings->memory = (coniks_client_memory){allocate, release, NULL};
     settings->clock = machine_clock;
     settings->max_age = CONIKS_CLIENT_TWO_PERIODS;
     settings->skew = 300;
 }
 
-/* Takes the keys, and checks that they are those of the policy document. */
-static uint32_t take_keys(coniks_client *client, const coniks_client_settings *settings)
+static uint32_t take_policy(coniks_client *client)
 {
-    const struct policy *policy = &client->policy;
-    client->signatures = settings->signatures;
-    client->indices = settings->indices;
-    client->has_vrf = settings->vrf_key != NULL;
-    if (settings->signing_key)
-        client->signing_key = *settings->signing_key;
-    if (settings->vrf_key)
-        client->vrf_key = *settings->vrf_key;
-    if (client->signatures.verify == NULL && !client_is_point(&client->signing_key))
-        return CONIKS_CLIENT_E_SIGNING_KEY;
-    if (client->indices.index == NULL && client->has_vrf && !client_is_point(&client->vrf_key))
-        return CONIKS_CLIENT_E_VRF_KEY;
-    if (!policy->has_keys)
-        return 0;
-    if (client->signatures.verify == NULL && memcmp(&client->signing_key, &policy->signing_key, sizeof policy->signing_key))
-        return CONIKS_CLIENT_E_POLICY_KEYS;
-    if (client->indices.index)
-        return 0;
-    if (client->has_vrf != policy->has_vrf)
-        return CONIKS_CLIENT_E_POLICY_KEYS;
-    return client->has_vrf && memcmp(&client->vrf_key, &policy->vrf_key, sizeof policy->vrf_key) ? CONIKS_CLIENT_E_POLICY_KEYS
-                                                                                                 : 0;
-}
-
-static uint32_t take_policy(coniks_client *client, const coniks_client_settings *settings)
-{
+    const coniks_client_settings *settings = &client->settings;
     if (settings->policy)
         return client_read_policy(client_slice_of(settings->policy, settings->policy_length), &client->policy);
     if (settings->policy_digest == NULL)
@@ -77,38 +50,40 @@ static uint32_t take_policy(coniks_client *client, const coniks_client_settings 
 }
 
 /* Takes the trust document, and makes a mark for each of its auditors. */
-static uint32_t take_trust(coniks_client *client, const coniks_client_settings *settings)
+static uint32_t take_trust(coniks_client *client)
 {
-    const coniks_client_memory *memory = &client->memory;
+    const coniks_client_settings *settings = &client->settings;
+    struct array *marks = &client->marks;
     if (settings->trust == NULL)
         return 0;
     client->trust = *settings->trust;
-    client->auditors = settings->auditors;
     client->quorum = coniks_core_quorum(settings->auditors, settings->faulty);
-    if (client->quorum == 0 || client->auditors > SIZE_MAX / sizeof *client->marks)
+    if (client->quorum == 0)
         return CONIKS_CLIENT_E_QUORUM;
-    client->marks = memory->allocate(memory->context, client->auditors * sizeof *client->marks);
-    if (client->marks == NULL)
+    if (client_reserve(client, marks, settings->auditors, sizeof(uint64_t)))
         return CONIKS_CLIENT_E_MEMORY;
-    memset(client->marks, 0, client->auditors * sizeof *client->marks);
+    marks->count = settings->auditors;
+    client_clear(marks->items, marks->count * sizeof(uint64_t));
     return 0;
 }
 
-static uint32_t take_settings(coniks_client *client, const coniks_client_settings *settings)
+/* Takes the limits, which count by the policy's clock. */
+static void take_limits(coniks_client *client)
 {
-    uint64_t period;
-    uint32_t status = take_policy(client, settings);
-    if (status == 0)
-        status = take_keys(client, settings);
-    if (status == 0)
-        status = take_trust(client, settings);
-    period = client->policy.period;
-    client->max_age = settings->max_age;
-    if (settings->max_age == CONIKS_CLIENT_TWO_PERIODS)
-        client->max_age = period <= UINT64_MAX / 2 ? 2 * period : UINT64_MAX;
-    client->skew = settings->skew;
-    client->clock = settings->clock;
-    client->clock_context = settings->clock_context;
+    coniks_present *clock = &client->policy.clock;
+    clock->max_age = client->settings.max_age;
+    if (clock->max_age == CONIKS_CLIENT_TWO_PERIODS && clock->period <= UINT64_MAX / 2)
+        clock->max_age = 2 * clock->period;
+    clock->skew = client->settings.skew;
+}
+
+/* Gives a client to the caller, or frees it if there is an error. */
+static uint32_t hand_over(coniks_client **client, uint32_t status)
+{
+    if (status) {
+        coniks_client_free(*client);
+        *client = NULL;
+    }
     return status;
 }
 
@@ -123,143 +98,111 @@ uint32_t coniks_client_new(coniks_client **client, const coniks_client_settings 
     if (made == NULL)
         return CONIKS_CLIENT_E_MEMORY;
     memset(made, 0, sizeof *made);
-    made->memory = settings->memory;
-    status = take_settings(made, settings);
-    if (status)
-        coniks_client_free(made);
-    else
-        *client = made;
-    return status;
-}
-
-void coniks_client_free(coniks_client *client)
-{
-    if (client)
-        client_free_all(client);
-}
-
-/* Gives a client to the caller, or frees it if there is an error. */
-static uint32_t hand_over(coniks_client **client, coniks_client *made, uint32_t status)
-{
-    *client = status ? NULL : made;
-    if (status)
-        coniks_client_free(made);
-    return status;
+    made->settings = *settings;
+    status = take_policy(made);
+    if (status == 0)
+        status = client_take_keys(made);
+    if (status == 0)
+        status = take_trust(made);
+    take_limits(made);
+    *client = made;
+    return hand_over(client, status);
 }
 
 uint32_t coniks_client_resume(coniks_client **client, const coniks_client_settings *settings, const uint8_t *state,
                               size_t state_length)
 {
     uint32_t status = coniks_client_new(client, settings);
-    return status ? status : hand_over(client, *client, client_take_state(*client, client_slice_of(state, state_length)));
+    return status ? status : hand_over(client, client_take_state(*client, client_slice_of(state, state_length)));
 }
 
 coniks_present client_present(const coniks_client *client)
 {
-    coniks_present it = {0};
-    it.has_clock = client->policy.period > 0;
-    it.start = client->policy.start;
-    it.period = client->policy.period;
-    it.max_age = client->max_age;
-    it.skew = client->skew;
-    it.time = client->clock(client->clock_context);
+    coniks_present it = client->policy.clock;
+    it.time = client->settings.clock(client->settings.clock_context);
     return it;
 }
 
-uint64_t client_epoch_of(const coniks_kept *kept)
+/* Writes what convicts together with an entry. */
+static void fill_evidence(const coniks_client *client, const uint8_t *entry, const coniks_why *why, coniks_client_evidence *to)
 {
-    coniks_body body;
-    return coniks_entry_body(kept->entry, sizeof kept->entry, &body) == CONIKS_GOOD ? body.epoch : 0;
-}
-
-void client_explain(const coniks_client *client, const uint8_t *entry, const coniks_why *why, coniks_client_refusal *to)
-{
-    coniks_client_evidence *evidence = &to->evidence;
-    to->status = why->status;
-    evidence->kind = why->kind;
+    const coniks_kept *kept = client->kept.items;
+    to->kind = why->kind;
     if (why->kind == 0)
         return;
-    memcpy(evidence->mine, why->mine == SIZE_MAX ? entry : client->kept[why->mine].entry, sizeof evidence->mine);
-    memcpy(evidence->other, entry, sizeof evidence->other);
+    memcpy(to->mine, why->mine == SIZE_MAX ? entry : kept[why->mine].entry, sizeof to->mine);
+    memcpy(to->other, entry, sizeof to->other);
 }
 
-/* The heads of auditors as the core takes them. */
-static void copy_heads(const coniks_client_head *heads, size_t count, coniks_head *copies)
+uint32_t client_refused(const coniks_client *client, uint32_t status, const uint8_t *entry, const coniks_why *why,
+                        coniks_client_refusal *to)
 {
-    size_t i;
-    for (i = 0; i < count; i++) {
-        copies[i].is_there = 1;
-        copies[i].epoch = heads[i].epoch;
-        copies[i].link = heads[i].link;
+    if (status && to) {
+        to->status = why->status;
+        fill_evidence(client, entry, why, &to->evidence);
     }
+    return status;
 }
 
-/* Begins with an entry, of which at most MANY_HEADS auditors have a head. */
-static uint32_t start(coniks_client *client, struct slice entry, const coniks_client_head *heads, size_t head_count,
-                      size_t least, coniks_client_refusal *why)
+/* The heads of the auditors that vouch for a first entry, and how many must. */
+struct heads {
+    coniks_head list[MANY_HEADS];
+    size_t count, least;
+};
+
+/* Accepts an entry: the first one if there are heads, else one that continues the chain. */
+static uint32_t accept(coniks_client *client, struct slice entry, const struct heads *heads, coniks_client_refusal *why)
 {
-    coniks_head copies[MANY_HEADS];
-    uint64_t time = client->clock(client->clock_context);
+    const uint32_t is_signed = client_signature_verdict(client, entry.bytes, entry.length);
+    const uint64_t time = client_present(client).time;
     coniks_why reason = {0};
-    uint32_t status = client_reserve(client, 1, 0);
+    uint32_t status = client_reserve_epochs(client, 1, client->alarms.count);
     if (status)
         return status;
-    memset(copies, 0, sizeof copies);
-    copy_heads(heads, head_count, copies);
-    status = coniks_core_start(&client->policy.digest, client->kept, client->room, &client->count, &client->watch, copies,
-                               head_count, least, entry.bytes, entry.length,
-                               client_signature_verdict(client, entry.bytes, entry.length), time, &reason);
-    if (status && why)
-        client_explain(client, entry.bytes, &reason, why);
-    return status;
+    if (heads)
+        status = coniks_core_start(&client->policy.digest, WRITTEN(client->kept), &client->watch, heads->list, heads->count,
+                                   heads->least, entry.bytes, entry.length, is_signed, time, &reason);
+    else
+        status = coniks_core_feed(&client->policy.digest, WRITTEN(client->kept), &client->watch, ITEMS(client->marks),
+                                  entry.bytes, entry.length, is_signed, time, &reason);
+    return client_refused(client, status, entry.bytes, &reason, why);
 }
 
 uint32_t coniks_client_vouched(coniks_client **client, const coniks_client_settings *settings, const uint8_t *entry,
                                size_t entry_length, const coniks_client_head *heads, size_t head_count, size_t least,
                                coniks_client_refusal *why)
 {
+    struct heads given;
     uint32_t status = coniks_client_new(client, settings);
-    if (why)
-        memset(why, 0, sizeof *why);
-    if (status == 0 && least == 0)
-        status = CONIKS_CLIENT_E_LEAST;
-    else if (status == 0 && head_count > MANY_HEADS)
-        status = CONIKS_CLIENT_E_MANY_HEADS;
-    else if (status == 0)
-        status = start(*client, client_slice_of(entry, entry_length), heads, head_count, least, why);
-    return hand_over(client, *client, status);
-}
-
-/* Feeds an entry, for which there is room, and for the alarm that it may leave. */
-static uint32_t feed(coniks_client *client, struct slice entry, coniks_client_refusal *why)
-{
-    const uint32_t is_signed = client_signature_verdict(client, entry.bytes, entry.length);
-    uint64_t time = client->clock(client->clock_context);
-    coniks_why reason = {0};
-    uint32_t status = client_reserve(client, 1, client->alarm_count);
+    client_clear(why, sizeof *why);
     if (status)
         return status;
-    status = coniks_core_feed(&client->policy.digest, client->kept, client->room, &client->count, &client->watch, client->marks,
-                              client->auditors, entry.bytes, entry.length, is_signed, time, &reason);
-    if (status && why)
-        client_explain(client, entry.bytes, &reason, why);
-    return status;
+    if (least == 0)
+        return hand_over(client, CONIKS_CLIENT_E_LEAST);
+    if (head_count > MANY_HEADS)
+        return hand_over(client, CONIKS_CLIENT_E_MANY_HEADS);
+    given.least = least;
+    for (given.count = 0; given.count < head_count; given.count++) {
+        const coniks_client_head *head = &heads[given.count];
+        given.list[given.count] = (coniks_head){1, head->epoch, head->link};
+    }
+    return hand_over(client, accept(*client, client_slice_of(entry, entry_length), &given, why));
 }
 
 uint32_t coniks_client_feed(coniks_client *client, const uint8_t *entry, size_t entry_length, coniks_client_step *step,
                             coniks_client_refusal *why)
 {
+    const coniks_kept *kept;
     uint32_t status;
-    if (step)
-        memset(step, 0, sizeof *step);
-    if (why)
-        memset(why, 0, sizeof *why);
-    status = feed(client, client_slice_of(entry, entry_length), why);
-    if (status == 0 && step) {
-        step->epoch = client_epoch_of(&client->kept[client->count - 1]);
-        step->seen = client->kept[client->count - 1].seen;
-    }
-    return status;
+    client_clear(step, sizeof *step);
+    client_clear(why, sizeof *why);
+    status = accept(client, client_slice_of(entry, entry_length), NULL, why);
+    if (status || step == NULL)
+        return status;
+    kept = (const coniks_kept *)client->kept.items + client->kept.count - 1;
+    step->epoch = client_epoch_of(kept->entry);
+    step->seen = kept->seen;
+    return 0;
 }
 
 uint32_t coniks_client_catch_up(coniks_client *client, const uint8_t *catch_up, size_t length, coniks_client_step *steps,
@@ -267,8 +210,7 @@ uint32_t coniks_client_catch_up(coniks_client *client, const uint8_t *catch_up, 
 {
     size_t done = 0, count = 0;
     uint32_t status = coniks_core_catch_up(catch_up, length, &count);
-    if (why)
-        memset(why, 0, sizeof *why);
+    client_clear(why, sizeof *why);
     while (status == 0 && done < count) {
         const uint8_t *entry = catch_up + done * CONIKS_ENTRY_BYTES;
         status = coniks_client_feed(client, entry, CONIKS_ENTRY_BYTES, steps ? &steps[done] : NULL, why);
@@ -282,44 +224,43 @@ uint32_t coniks_client_catch_up(coniks_client *client, const uint8_t *catch_up, 
 
 uint32_t coniks_client_latest(const coniks_client *client, coniks_client_head *head)
 {
-    const coniks_kept *kept = client->count ? &client->kept[client->count - 1] : NULL;
+    const uint8_t *entry = coniks_client_entry(client, client->kept.count - 1);
     memset(head, 0, sizeof *head);
-    if (kept == NULL)
+    if (entry == NULL)
         return CONIKS_E_NO_ENTRY;
-    head->epoch = client_epoch_of(kept);
-    return coniks_link(kept->entry, sizeof kept->entry, &head->link);
+    head->epoch = client_epoch_of(entry);
+    return coniks_link(entry, CONIKS_ENTRY_BYTES, &head->link);
 }
 
 size_t coniks_client_count(const coniks_client *client)
 {
-    return client->count;
+    return client->kept.count;
 }
 
 const uint8_t *coniks_client_entry(const coniks_client *client, size_t place)
 {
-    return place < client->count ? client->kept[place].entry : NULL;
+    const coniks_kept *kept = client->kept.items;
+    return place < client->kept.count ? kept[place].entry : NULL;
 }
 
 uint32_t coniks_client_compare(const coniks_client *client, const coniks_client_head *head)
 {
     size_t place;
-    return coniks_core_compare(client->kept, client->count, head->epoch, &head->link, &place);
+    return coniks_core_compare(ITEMS(client->kept), head->epoch, &head->link, &place);
 }
 
 uint32_t coniks_client_evidence_of(const coniks_client *client, const uint8_t *entry, size_t entry_length,
                                    coniks_client_evidence *evidence)
 {
     const uint32_t is_signed = client_signature_verdict(client, entry, entry_length);
-    coniks_client_refusal found;
     coniks_why why = {0};
-    uint32_t status = coniks_core_evidence(client->kept, client->count, entry, entry_length, is_signed, &why);
-    memset(&found, 0, sizeof found);
+    uint32_t status = coniks_core_evidence(ITEMS(client->kept), entry, entry_length, is_signed, &why);
+    memset(evidence, 0, sizeof *evidence);
     if (status == CONIKS_NO_EVIDENCE) {
         why.mine = SIZE_MAX;
         status = coniks_convicts(entry, entry_length, entry, entry_length, &why.kind);
     }
     if (status == CONIKS_GOOD)
-        client_explain(client, entry, &why, &found);
-    *evidence = found.evidence;
+        fill_evidence(client, entry, &why, evidence);
     return status;
 }

@@ -1,7 +1,7 @@
 /*
  * A client of a CONIKS key directory in C, over coniks_core.h and libsodium: it verifies signatures, the chain, VRF proofs, paths and
  * the asked epoch. What it accepts is decided by the core; here are memory, cryptography and texts. To take it over, copy client.h,
- * client_parts.h and the nine files of the build line below.
+ * client_parts.h and the ten files of the build line below.
  *
  *     coniks_client_begin_settings(&settings);                    the keys and the policy that the directory publishes
  *     settings.signing_key = &signing_key;
@@ -19,7 +19,7 @@
  * provider is in `struct coniks_client_refusal`: publish it.
  *
  * Memory. The client allocates by `settings.memory`, and frees all of it in coniks_client_free. It keeps up to 468 bytes for each
- * entry, 16 for each alarm, 8 for each auditor, and 64 and the new key for each change of the watched key. Keys that it drops are freed, and
+ * entry, 16 for each alarm, 8 for each auditor, and 32 and the new key for each change of the watched key. Keys that it drops are freed, and
  * other room is used again. No length in a message decides how much is allocated: beside what is kept, a history takes 32 bytes for each
  * kept entry while the call lasts, and a state 4. Calls use at most 32 KiB of stack.
  *
@@ -33,8 +33,8 @@
  *
  * Build, in the repository, after embed/build and with libsodium-dev (libsodium 1.0.18):
  *
- *     cd embed/c && cc program.c client.c client_ecvrf.c client_memory.c client_policy.c client_replies.c client_state.c \
- *         client_texts.c client_verdicts.c client_watch.c -I../../include ../out/libconiks.a -lsodium
+ *     cd embed/c && cc program.c client.c client_ecvrf.c client_memory.c client_policy.c client_replies.c client_schemes.c \
+ *         client_state.c client_texts.c client_verdicts.c client_watch.c -I../../include ../out/libconiks.a -lsodium
  */
 #ifndef CONIKS_CLIENT_H
 #define CONIKS_CLIENT_H

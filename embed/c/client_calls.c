@@ -10,7 +10,7 @@
 #include "client_parts.h"
 
 /* WATCHED is the place of the watch in the example of a state. */
-enum { ROOM = 1 << 17, WATCHED = 37 + 2 * 218 + 4 + 32 + 4 };
+enum { ROOM = 1 << 17, WATCHED = 37 + 2 * 218 + 4 + 32 + 4, LONG_KEY = 1000 };
 
 static int failures;
 
@@ -24,15 +24,31 @@ static void check(int is_well, const char *what, int line)
     failures++;
 }
 
-/* How much is allocated at most at once and how often it still is, what a scheme returns, and what it was given last. */
+/* How much is allocated at most at once and in all, how often it still is, what a scheme returns, and what it was given last. */
 struct told {
-    size_t largest, granted;
+    size_t largest, live, granted;
     uint64_t now;
     int result;
     size_t verified; /* how many signatures */
     uint8_t entry[CONIKS_ENTRY_BYTES];
     struct slice name, proof;
 };
+
+/* Before each block stands its size. */
+union header {
+    size_t size;
+    long double alignment;
+};
+
+static void *counted(struct told *told, size_t size)
+{
+    union header *header = malloc(sizeof *header + size);
+    if (header == NULL)
+        exit(2);
+    header->size = size;
+    told->live += size;
+    return header + 1;
+}
 
 static void *allocate(void *context, size_t size)
 {
@@ -42,13 +58,14 @@ static void *allocate(void *context, size_t size)
     if (told->granted == 0)
         return NULL;
     told->granted--;
-    return malloc(size);
+    return counted(told, size);
 }
 
 static void release(void *context, void *block)
 {
-    (void)context;
-    free(block);
+    union header *header = (union header *)block - 1;
+    ((struct told *)context)->live -= header->size;
+    free(header);
 }
 
 static uint64_t clock_of(void *context)
@@ -408,6 +425,7 @@ static void try_given(void)
     CHECK(memcmp(told.entry, state + 37, sizeof told.entry) == 0);
     CHECK(coniks_client_feed(client, state + 255, CONIKS_ENTRY_BYTES, NULL, NULL) == 0);
     CHECK(memcmp(told.entry, state + 255, sizeof told.entry) == 0);
+    CHECK(coniks_client_feed(client, state + 255, CONIKS_ENTRY_BYTES + 1, NULL, NULL) == CONIKS_E_ENTRY_LENGTH);
     CHECK(look_up(client, reply, reply_length, NULL) == CONIKS_E_ROOT_MISMATCH && told.verified == 2);
     CHECK(told.name.length == 5 && memcmp(told.name.bytes, "alice", 5) == 0);
     CHECK(told.proof.length == VRF_PROOF_BYTES && memcmp(told.proof.bytes, reply + 212, VRF_PROOF_BYTES) == 0);
@@ -522,7 +540,7 @@ static int64_t age_at(coniks_client *client, struct told *told, uint64_t start, 
 {
     const uint64_t epoch = 2;
     coniks_client_found found;
-    client->policy.start = start;
+    client->policy.clock.start = start;
     told->now = now;
     CHECK(coniks_client_lookup(client, NAME("alice"), reply, reply_length, &epoch, &found, NULL) == 0 && found.has_age);
     return found.age;
@@ -566,13 +584,73 @@ static void try_misuse(void)
     coniks_client_free(client);
 }
 
+/* The same watch once more changes nothing, however long the key of a change is. */
+static void try_watch_again(void)
+{
+    static uint8_t before[ROOM], after[ROOM];
+    const uint8_t *k = (const uint8_t *)"k";
+    struct told told;
+    coniks_client *client = fed(&told);
+    size_t length, length_after, live;
+    CHECK(coniks_client_watch(client, NAME("alice"), k, 1, NULL) == 0);
+    CHECK(coniks_client_expect(client, reply, LONG_KEY, 3) == 0);
+    CHECK(coniks_client_state(client, before, sizeof before, &length) == 0);
+    live = told.live;
+    CHECK(coniks_client_watch(client, NAME("alice"), k, 1, NULL) == 0 && told.live == live);
+    CHECK(coniks_client_state(client, after, sizeof after, &length_after) == 0);
+    CHECK(length_after == length && memcmp(after, before, length) == 0);
+    coniks_client_free(client);
+}
+
+/* The key of a change that is dropped is freed, when another one took its place. */
+static void try_dropped_keys(void)
+{
+    const uint8_t *k = (const uint8_t *)"k";
+    coniks_client_settings settings;
+    struct told told;
+    coniks_client *client = credulous(&settings, &told);
+    coniks_client_head head;
+    size_t live;
+    client->policy.promise.is_limited = 1;
+    CHECK(coniks_client_watch(client, NAME("alice"), k, 1, NULL) == 0);
+    feed_next(client, &told, 1);
+    CHECK(coniks_client_expect(client, reply, LONG_KEY, 2) == 0);
+    feed_next(client, &told, 2);
+    CHECK(coniks_client_expect(client, k, 1, 3) == 0);
+    feed_next(client, &told, 3);
+    live = told.live;
+    CHECK(coniks_client_latest(client, &head) == 0 && coniks_client_cover(client, &head) == CONIKS_CLIENT_EQUAL);
+    CHECK(coniks_client_count(client) == 1 && told.live == live - LONG_KEY - 1);
+    coniks_client_free(client);
+    CHECK(told.live == 0);
+}
+
+/* Without a key of the VRF, and with a digest alone, nothing can be looked up. */
+static void try_no_vrf(void)
+{
+    coniks_client_settings settings;
+    struct told told;
+    coniks_client *client;
+    coniks_bytes32 digest;
+    begin_settings(&settings, &told);
+    memcpy(digest.bytes, state + 1, 32);
+    settings.policy = NULL;
+    settings.policy_digest = &digest;
+    settings.vrf_key = NULL;
+    CHECK(coniks_client_new(&client, &settings) == 0);
+    CHECK(coniks_client_catch_up(client, state + 37, CONIKS_ENTRY_BYTES, NULL, NULL, NULL) == 0);
+    CHECK(coniks_client_feed(client, state + 255, CONIKS_ENTRY_BYTES, NULL, NULL) == 0);
+    CHECK(look_up(client, reply, reply_length, NULL) == CONIKS_CLIENT_E_VRF_PROOF);
+    coniks_client_free(client);
+}
+
 /* The example's policy, with proofs that are kept for a number of seconds, at a time. */
 static size_t lost_at(coniks_client *client, struct told *told, uint64_t proofs_kept, uint64_t now)
 {
     uint64_t epochs[2] = {7, 7};
     size_t count;
-    client->policy.has_end = 1;
-    client->policy.proofs_kept = proofs_kept;
+    client->policy.promise.is_limited = 1;
+    client->policy.promise.seconds = proofs_kept;
     told->now = now;
     count = coniks_client_lost(client, epochs, 2);
     CHECK(epochs[0] == (count ? 1 : 7) && epochs[1] == 7 && coniks_client_missing(client, NULL, 0) == 2);
@@ -607,7 +685,7 @@ static void try_many_alarms(void)
     coniks_client_head head;
     uint64_t epoch;
     size_t length;
-    client->policy.has_end = 1;
+    client->policy.promise.is_limited = 1;
     CHECK(coniks_client_watch(client, NAME("alice"), NULL, 0, NULL) == 0);
     for (epoch = 1; epoch <= 100; epoch++) {
         feed_next(client, &told, epoch);
@@ -627,7 +705,7 @@ static void try_lost_room(void)
     coniks_client_settings settings;
     struct told told;
     coniks_client *client = credulous(&settings, &told);
-    client->policy.has_end = 1;
+    client->policy.promise.is_limited = 1;
     CHECK(coniks_client_watch(client, NAME("alice"), NULL, 0, NULL) == 0);
     for (epoch = 1; epoch <= 3; epoch++)
         feed_next(client, &told, epoch);
@@ -671,15 +749,64 @@ static void try_settings(void)
     coniks_client_free(NULL);
 }
 
-/* Reads the example's policy with other bytes in place of some of it. */
-static uint32_t read_changed(const char *part, const char *other)
+/* Writes the example's policy with other bytes in place of some of it. */
+static struct slice changed_policy(const char *part, const char *other)
 {
     static const char document[] = POLICY;
-    char text[1024];
-    struct policy policy;
+    static char text[1024];
     const char *at = strstr(document, part);
     int length = snprintf(text, sizeof text, "%.*s%s%s", (int)(at - document), document, other, at + strlen(part));
-    return client_read_policy(client_slice_of((const uint8_t *)text, (size_t)length), &policy);
+    return client_slice_of((const uint8_t *)text, (size_t)length);
+}
+
+static uint32_t read_changed(const char *part, const char *other)
+{
+    struct policy policy;
+    return client_read_policy(changed_policy(part, other), &policy);
+}
+
+/* What a client returns that is made with another policy. */
+static uint32_t made_with(coniks_client **client, coniks_client_settings *settings, struct slice policy)
+{
+    settings->policy = policy.bytes;
+    settings->policy_length = policy.length;
+    return coniks_client_new(client, settings);
+}
+
+/* Keys that are those of no policy: of the third example of RFC 8032, and none in place of 32 zero bytes. */
+static void try_other_keys(void)
+{
+    static const char *zeros = "0000000000000000000000000000000000000000000000000000000000000000";
+    coniks_client_settings settings;
+    struct told told;
+    coniks_client *client;
+    coniks_bytes32 third;
+    read_digits(SIGNED[2][0], third.bytes);
+    begin_settings(&settings, &told);
+    settings.signing_key = &third;
+    CHECK(coniks_client_new(&client, &settings) == CONIKS_CLIENT_E_POLICY_KEYS);
+    begin_settings(&settings, &told);
+    settings.vrf_key = &third;
+    CHECK(coniks_client_new(&client, &settings) == CONIKS_CLIENT_E_POLICY_KEYS);
+    settings.vrf_key = NULL;
+    CHECK(made_with(&client, &settings, changed_policy(VRF_KEY, zeros)) == CONIKS_CLIENT_E_POLICY_KEYS);
+    CHECK(made_with(&client, &settings, changed_policy("ECVRF-EDWARDS25519-SHA512-TAI\nvrf-key " VRF_KEY, "none")) == 0);
+    coniks_client_free(client);
+}
+
+/* Two periods of 2^63 seconds are more than a number has. */
+static void try_long_periods(void)
+{
+    coniks_client_settings settings;
+    struct told told;
+    coniks_client *client;
+    begin_settings(&settings, &told);
+    CHECK(made_with(&client, &settings, changed_policy("period 3600", "period 9223372036854775808")) == 0);
+    CHECK(client && client->policy.clock.max_age == UINT64_MAX);
+    coniks_client_free(client);
+    CHECK(made_with(&client, &settings, changed_policy("period 3600", "period 9223372036854775807")) == 0);
+    CHECK(client && client->policy.clock.max_age == UINT64_MAX - 1);
+    coniks_client_free(client);
 }
 
 static void try_policies(void)
@@ -828,11 +955,16 @@ int main(void)
     try_covers();
     try_ages();
     try_misuse();
+    try_watch_again();
+    try_dropped_keys();
+    try_no_vrf();
     try_settings();
     try_lost();
     try_many_alarms();
     try_lost_room();
     try_policies();
+    try_other_keys();
+    try_long_periods();
     try_texts();
     return failures ? 1 : 0;
 }

@@ -1,114 +1,111 @@
-/* The memory of a client: arrays that grow before a call of the core, and copies of names and keys. */
+/* The memory of a client: arrays that grow before a call of the core, one block with copies of its name and its keys, and kept numbers. */
 #include <string.h>
 
 #include "client_parts.h"
 
-static void *allocate(const coniks_client *client, size_t count, size_t size)
+void *client_allocate(const coniks_client *client, size_t size)
 {
-    const coniks_client_memory *memory = &client->memory;
-    return count <= UINT32_MAX && count <= SIZE_MAX / size ? memory->allocate(memory->context, count * size) : NULL;
+    const coniks_client_memory *memory = &client->settings.memory;
+    return memory->allocate(memory->context, size ? size : 1);
 }
 
-static void release(const coniks_client *client, const void *block)
+void client_release(const coniks_client *client, void *block)
 {
-    const coniks_client_memory *memory = &client->memory;
+    const coniks_client_memory *memory = &client->settings.memory;
     if (block)
-        memory->release(memory->context, (void *)(uintptr_t)block);
+        memory->release(memory->context, block);
 }
 
-/* Returns a larger array with the elements of another one, which is freed; NULL if there is no memory. */
-static void *grown(const coniks_client *client, void *from, size_t count, size_t room, size_t size)
+uint32_t client_reserve(const coniks_client *client, struct array *array, size_t room, size_t size)
 {
-    void *to = allocate(client, room, size);
-    if (to && count)
-        memcpy(to, from, count * size);
-    if (to)
-        release(client, from);
-    return to;
-}
-
-/* Room for `more` elements after `count`: twice the count, if that is enough. */
-static size_t room_for(size_t count, size_t more)
-{
-    size_t wanted = more > count ? count + more : 2 * count;
-    return wanted <= UINT32_MAX ? wanted : count + more;
-}
-
-/* Makes room for `room` alarms. */
-static uint32_t reserve_alarms(coniks_client *client, size_t room)
-{
-    coniks_alarm *alarms;
-    if (room <= client->alarm_room)
+    void *items;
+    if (room <= array->room)
         return 0;
-    alarms = grown(client, client->alarms, client->alarm_count, room, sizeof *alarms);
-    if (alarms == NULL)
+    items = room <= SIZE_MAX / size ? client_allocate(client, room * size) : NULL;
+    if (items == NULL)
         return CONIKS_CLIENT_E_MEMORY;
-    client->alarms = alarms;
-    client->alarm_room = room;
+    if (array->count)
+        memcpy(items, array->items, array->count * size);
+    client_release(client, array->items);
+    array->items = items;
+    array->room = room;
     return 0;
 }
 
-/* There is room for the alarms first, so that a kept epoch can always be dropped. */
-uint32_t client_reserve(coniks_client *client, size_t more, size_t alarm_count)
+/* The room for epochs doubles. There is room for the alarms first, so that a kept epoch can always be dropped. */
+uint32_t client_reserve_epochs(coniks_client *client, size_t more, size_t alarm_count)
 {
-    size_t room = client->room;
-    coniks_kept *kept;
+    const struct array *kept = &client->kept;
+    size_t room = kept->room;
     uint32_t status;
-    if (more > UINT32_MAX - client->count)
-        return CONIKS_CLIENT_E_MEMORY;
-    if (more > room - client->count)
-        room = room_for(client->count, more);
-    status = reserve_alarms(client, alarm_count + room);
-    if (status || room == client->room)
-        return status;
-    kept = grown(client, client->kept, client->count, room, sizeof *kept);
-    if (kept == NULL)
-        return CONIKS_CLIENT_E_MEMORY;
-    client->kept = kept;
-    client->room = room;
-    return 0;
+    if (more > room - kept->count)
+        room = more > kept->count ? kept->count + more : 2 * kept->count;
+    status = client_reserve(client, &client->alarms, alarm_count + room, sizeof(coniks_alarm));
+    return status ? status : client_reserve(client, &client->kept, room, sizeof(coniks_kept));
 }
 
-uint32_t client_reserve_changes(coniks_client *client, size_t count)
+size_t client_text_length(const coniks_client *client)
 {
-    coniks_change *changes;
-    if (count <= client->change_room)
-        return 0;
-    if (count > UINT32_MAX / 2)
-        return CONIKS_CLIENT_E_MEMORY;
-    changes = grown(client, client->changes, client->change_count, 2 * count, sizeof *changes);
-    if (changes == NULL)
-        return CONIKS_CLIENT_E_MEMORY;
-    client->changes = changes;
-    client->change_room = count;
-    return 0;
+    const coniks_change *changes = client->changes.items;
+    size_t i, length = client->watch.name_length + client->watch.key_length;
+    for (i = 0; i < client->changes.count; i++)
+        length += changes[i].key_length;
+    return length;
 }
 
-int client_own(const coniks_client *client, const uint8_t **bytes, size_t length)
-{
-    uint8_t *copy = length ? client->memory.allocate(client->memory.context, length) : NULL;
-    if (copy)
-        memcpy(copy, *bytes, length);
-    *bytes = copy;
-    return copy != NULL || length == 0;
-}
-
-void client_disown(const coniks_client *client, const uint8_t *bytes, size_t length)
+/* Copies bytes to the end of a block. */
+static void append(uint8_t **end, const uint8_t **bytes, size_t length)
 {
     if (length)
-        release(client, bytes);
+        memcpy(*end, *bytes, length);
+    *bytes = *end;
+    *end += length;
 }
 
-void client_free_all(coniks_client *client)
+uint32_t client_own_texts(coniks_client *client, uint8_t *block)
 {
-    coniks_client_memory memory = client->memory;
+    coniks_change *changes = client->changes.items;
+    uint8_t *end = block;
     size_t i;
-    for (i = 0; i < client->change_count; i++)
-        client_disown(client, client->changes[i].key, client->changes[i].key_length);
-    client_disown(client, client->watch.key, client->watch.key_length);
-    release(client, client->changes);
-    release(client, client->marks);
-    release(client, client->alarms);
-    release(client, client->kept);
-    memory.release(memory.context, client);
+    if (block == NULL)
+        return CONIKS_CLIENT_E_MEMORY;
+    append(&end, &client->watch.name, client->watch.name_length);
+    append(&end, &client->watch.key, client->watch.key_length);
+    for (i = 0; i < client->changes.count; i++)
+        append(&end, &changes[i].key, changes[i].key_length);
+    client_release(client, client->texts);
+    client->texts = block;
+    return 0;
+}
+
+uint64_t client_number_of(const uint8_t *bytes)
+{
+    uint64_t number = 0;
+    size_t i;
+    for (i = 0; i < 8; i++)
+        number = number << 8 | bytes[i];
+    return number;
+}
+
+uint64_t client_epoch_of(const uint8_t *entry)
+{
+    return client_number_of(entry + 1);
+}
+
+void client_clear(void *bytes, size_t length)
+{
+    if (bytes && length)
+        memset(bytes, 0, length);
+}
+
+void coniks_client_free(coniks_client *client)
+{
+    if (client == NULL)
+        return;
+    client_release(client, client->kept.items);
+    client_release(client, client->alarms.items);
+    client_release(client, client->changes.items);
+    client_release(client, client->marks.items);
+    client_release(client, client->texts);
+    client_release(client, client);
 }

@@ -12,38 +12,33 @@ struct slice {
     size_t length;
 };
 
-/* The policy, as far as a client needs it. The period is 0 without a clock. If `has_end` is 1, proofs are kept for `proofs_kept`
- * seconds, else for ever. */
-struct policy {
-    coniks_bytes32 digest, signing_key, vrf_key;
-    int has_keys, has_vrf, has_end;
-    uint64_t start, period, proofs_kept;
+/* An array that grows. The first `count` elements are in use. */
+struct array {
+    void *items;
+    size_t count, room;
 };
 
-/* The client owns all that its pointers point at: the name and the keys of the watch too. */
+/* What an array has, and an array that is written, as the core takes them. */
+#define ITEMS(array) (array).items, (array).count
+#define WRITTEN(array) (array).items, (array).room, &(array).count
+
+/* The policy, as far as a client needs it. `clock` has the client's limits too, but not the time. */
+struct policy {
+    coniks_bytes32 digest, signing_key, vrf_key;
+    int has_keys, has_vrf;
+    coniks_present clock;
+    coniks_promise promise;
+};
+
+/* The client owns all that its pointers point at. What those of its settings to keys, policy and trust point at is read as it is made. */
 struct coniks_client {
-    coniks_bytes32 signing_key, vrf_key;
-    int has_vrf;
-    coniks_client_signatures signatures;
-    coniks_client_indices indices;
-    coniks_client_memory memory;
-    uint64_t (*clock)(void *context);
-    void *clock_context;
-    uint64_t max_age, skew;
+    coniks_client_settings settings;
+    coniks_bytes32 signing_key, vrf_key, trust;
     struct policy policy;
-    /* The kept epochs, the alarms, and the room for each of them. There is room for an alarm of each kept epoch. */
-    coniks_kept *kept;
-    size_t count, room;
-    coniks_alarm *alarms;
-    size_t alarm_count, alarm_room;
+    struct array kept, alarms, changes, marks;
     coniks_watch watch;
-    uint8_t name[CONIKS_MAX_NAME];
-    /* As many changes as there is room for, and as many again, for the keys of those that are dropped. */
-    coniks_change *changes;
-    size_t change_count, change_room;
-    coniks_bytes32 trust;
-    uint64_t *marks;
-    size_t auditors, quorum;
+    uint8_t *texts; /* the watched name, and all keys of the watch and of the changes */
+    size_t quorum;
 };
 
 /* client_ecvrf.c */
@@ -57,12 +52,17 @@ CONIKS_NODISCARD int client_verify_vrf(const coniks_bytes32 *key, struct slice i
                                        coniks_bytes32 *index);
 void client_hash_bytes(const uint8_t *bytes, size_t length, coniks_bytes32 *hash);
 
+/* client_schemes.c */
+
+/* Takes the keys of the settings, and checks that they are those of the policy document. */
+CONIKS_NODISCARD uint32_t client_take_keys(coniks_client *client);
+
 /* client_verdicts.c: all verdicts that the core is given are made here */
 
 /* Returns the verdict on the signature of an entry of 209 bytes, and 0 for bytes of another length. */
 CONIKS_NODISCARD uint32_t client_signature_verdict(const coniks_client *client, const uint8_t *entry, size_t length);
-/* Writes the verdict on the VRF proof of a name, and the index. */
-void client_index_verdict(const coniks_client *client, struct slice name, struct slice proof, coniks_verdicts *verdicts);
+/* Returns the verdict on the VRF proof of a name, with the index. */
+CONIKS_NODISCARD coniks_verdicts client_index_verdict(const coniks_client *client, struct slice name, struct slice proof);
 
 /* client_policy.c */
 
@@ -72,16 +72,24 @@ CONIKS_NODISCARD uint32_t client_read_policy(struct slice document, struct polic
 
 /* client_memory.c */
 
+/* Allocates at least one byte. Returns NULL if there is no memory. */
+CONIKS_NODISCARD void *client_allocate(const coniks_client *client, size_t size);
+/* Frees a block; NULL is none. */
+void client_release(const coniks_client *client, void *block);
+/* Makes room for a number of elements of a size. */
+CONIKS_NODISCARD uint32_t client_reserve(const coniks_client *client, struct array *array, size_t room, size_t size);
 /* Makes room for `more` kept epochs, and for `alarm_count` alarms and one of each kept epoch. */
-CONIKS_NODISCARD uint32_t client_reserve(coniks_client *client, size_t more, size_t alarm_count);
-/* Makes room for `count` changes in all. */
-CONIKS_NODISCARD uint32_t client_reserve_changes(coniks_client *client, size_t count);
-/* Replaces bytes by a copy that the client owns. Returns 0 if there is no memory; the copy of no byte is NULL. */
-CONIKS_NODISCARD int client_own(const coniks_client *client, const uint8_t **bytes, size_t length);
-/* Frees what client_own made. A pointer to no byte may be any: the core writes it so. */
-void client_disown(const coniks_client *client, const uint8_t *bytes, size_t length);
-/* Frees all that a client owns, and the client. */
-void client_free_all(coniks_client *client);
+CONIKS_NODISCARD uint32_t client_reserve_epochs(coniks_client *client, size_t more, size_t alarm_count);
+/* Returns how many bytes the watched name and all keys have. */
+CONIKS_NODISCARD size_t client_text_length(const coniks_client *client);
+/* Copies the watched name and all keys to a block that has room for them, in place of the one that the client owns. Changes nothing if the
+ * block is NULL: there is no memory. */
+uint32_t client_own_texts(coniks_client *client, uint8_t *block);
+/* Returns the number in eight bytes, and the epoch of a kept entry. */
+uint64_t client_number_of(const uint8_t *bytes);
+uint64_t client_epoch_of(const uint8_t *entry);
+/* Writes zeros; `bytes` may be NULL. */
+void client_clear(void *bytes, size_t length);
 
 /* client_state.c */
 
@@ -90,12 +98,10 @@ CONIKS_NODISCARD uint32_t client_take_state(coniks_client *client, struct slice 
 
 /* client.c */
 
-/* Returns the epoch of a kept entry. */
-uint64_t client_epoch_of(const coniks_kept *kept);
-/* Writes why an entry was refused; `why` may be NULL. */
-void client_explain(const coniks_client *client, const uint8_t *entry, const coniks_why *why, coniks_client_refusal *to);
+/* Writes why an entry was refused, unless `to` is NULL. Returns the status. */
+uint32_t client_refused(const coniks_client *client, uint32_t status, const uint8_t *entry, const coniks_why *why,
+                        coniks_client_refusal *to);
 /* Returns the clock of the policy, and the time. */
 coniks_present client_present(const coniks_client *client);
-coniks_promise client_promise(const coniks_client *client);
 
 #endif

@@ -107,8 +107,9 @@ static int take_clock(struct reader *it, struct policy *policy)
     struct slice start, period;
     if (!take_value(it, "epoch-start ", &start))
         return 1;
-    return is_number(start, &policy->start) && take_value(it, "epoch-period ", &period) && is_number(period, &policy->period) &&
-           policy->period > 0;
+    policy->clock.has_clock = 1;
+    return is_number(start, &policy->clock.start) && take_value(it, "epoch-period ", &period) &&
+           is_number(period, &policy->clock.period) && policy->clock.period > 0;
 }
 
 /* The line that promises records of owners may be absent. A client in C verifies no records. */
@@ -123,8 +124,8 @@ static int take_kept(struct reader *it, struct policy *policy)
     struct slice value;
     if (!take_value(it, "proofs-kept ", &value))
         return 0;
-    policy->has_end = !is_text(value, "forever");
-    return !policy->has_end || is_number(value, &policy->proofs_kept);
+    policy->promise.is_limited = !is_text(value, "forever");
+    return !policy->promise.is_limited || is_number(value, &policy->promise.seconds);
 }
 
 uint32_t client_read_policy(struct slice document, struct policy *policy)

@@ -5,7 +5,6 @@
 
 use core::marker::PhantomData;
 use core::ptr::null;
-use std::vec;
 use std::vec::Vec;
 
 /// `SIZE_MAX`, as the place of an entry that convicts alone.
@@ -21,42 +20,91 @@ pub struct Kept {
     pub seen: u8,
 }
 
-/// Bytes that a struct of C points at.
-#[repr(C)]
-#[derive(Clone, Copy)]
-pub struct Text<'a> {
-    start: *const u8,
-    length: usize,
-    bytes: PhantomData<&'a [u8]>,
+impl Default for Kept {
+    fn default() -> Self {
+        Self { entry: [0; 209], first_seen: [0; 8], seen: 0 }
+    }
 }
 
-impl<'a> Text<'a> {
-    pub fn of(bytes: &'a [u8]) -> Self {
-        Self { start: bytes.as_ptr(), length: bytes.len(), bytes: PhantomData }
+/// Elements that the core appends and drops: the first ones of the memory.
+#[derive(Default)]
+pub struct Array<T> {
+    memory: Vec<T>,
+    count: usize,
+}
+
+impl<T: Copy + Default> Array<T> {
+    pub fn get(&self) -> &[T] {
+        self.memory.get(..self.count).unwrap_or_default()
     }
 
-    /// Returns the bytes. A pointer to no byte may be any pointer.
-    pub fn get(&self) -> &'a [u8] {
+    pub fn get_mut(&mut self) -> &mut [T] {
+        self.memory.get_mut(..self.count).unwrap_or_default()
+    }
+
+    /// Makes room for more elements, which are written before they count.
+    pub fn reserve(&mut self, more: usize) {
+        let needed = self.count.saturating_add(more);
+        if needed > self.memory.len() {
+            self.memory.resize(needed.max(self.memory.len().saturating_mul(2)), T::default());
+        }
+    }
+}
+
+impl<T> FromIterator<T> for Array<T> {
+    fn from_iter<I: IntoIterator<Item = T>>(elements: I) -> Self {
+        let memory = Vec::from_iter(elements);
+        let count = memory.len();
+        Self { memory, count }
+    }
+}
+
+/// Elements that a struct of C points at.
+#[repr(C)]
+#[derive(Clone, Copy)]
+pub struct Slice<'a, T> {
+    start: *const T,
+    length: usize,
+    elements: PhantomData<&'a [T]>,
+}
+
+impl<'a, T> Slice<'a, T> {
+    pub fn of(elements: &'a [T]) -> Self {
+        Self { start: elements.as_ptr(), length: elements.len(), elements: PhantomData }
+    }
+
+    /// Returns the elements. A pointer to none may be any pointer.
+    pub fn get(&self) -> &'a [T] {
         if self.length == 0 {
             return &[];
         }
-        // SAFETY: the core writes only texts that it was given, or parts of a state's bytes, which are there for 'a.
+        // SAFETY: the core writes only slices that it was given, or parts of a message's bytes, which are there for 'a.
         unsafe { core::slice::from_raw_parts(self.start, self.length) }
     }
 }
 
-impl Default for Text<'_> {
+impl<T> Default for Slice<'_, T> {
     fn default() -> Self {
-        Self { start: null(), length: 0, bytes: PhantomData }
+        Self { start: null(), length: 0, elements: PhantomData }
     }
 }
 
+pub type Text<'a> = Slice<'a, u8>;
+
+/// A change of the watched key. The core takes its key as a text; who keeps it has the bytes.
 #[repr(C)]
 #[derive(Clone, Copy, Default)]
-pub struct Change<'a> {
+pub struct Change<T> {
     pub last_old: u64,
     pub first_new: u64,
-    pub key: Text<'a>,
+    pub key: T,
+}
+
+impl<T> Change<T> {
+    /// Returns the same change with its key in another form.
+    pub fn with<'a, U>(&'a self, form: impl Fn(&'a T) -> U) -> Change<U> {
+        Change { last_old: self.last_old, first_new: self.first_new, key: form(&self.key) }
+    }
 }
 
 #[repr(C)]
@@ -66,14 +114,25 @@ pub struct Alarm {
     pub seen: u8,
 }
 
+/// The watched name and its first key, in the forms of a change's key.
 #[repr(C)]
 #[derive(Clone, Copy, Default)]
-pub struct Watch<'a> {
+pub struct Watch<T> {
     pub is_watched: u32,
-    pub name: Text<'a>,
+    pub name: T,
     pub since: u64,
-    pub key: Text<'a>,
+    pub key: T,
 }
+
+impl<T> Watch<T> {
+    /// Returns the same watch with its name and its key in another form.
+    pub fn with<'a, U>(&'a self, form: impl Fn(&'a T) -> U) -> Watch<U> {
+        Watch { is_watched: self.is_watched, name: form(&self.name), since: self.since, key: form(&self.key) }
+    }
+}
+
+pub type RawChange<'a> = Change<Text<'a>>;
+pub type RawWatch<'a> = Watch<Text<'a>>;
 
 #[repr(C)]
 #[derive(Clone, Copy, Default)]
@@ -176,8 +235,8 @@ pub struct HistoryNeeds {
 }
 
 #[repr(C)]
-struct Siblings {
-    strings: [[u8; 32]; 256],
+pub struct Siblings {
+    pub strings: [[u8; 32]; 256],
 }
 
 #[repr(C)]
@@ -190,17 +249,13 @@ pub struct Step<'a> {
 }
 
 #[repr(C)]
-struct Saved<'a> {
-    kept: *const Kept,
-    count: usize,
-    watch: Watch<'a>,
-    changes: *const Change<'a>,
-    change_count: usize,
-    alarms: *const Alarm,
-    alarm_count: usize,
-    trust: [u8; 32],
-    marks: *const u64,
-    mark_count: usize,
+pub struct Saved<'a> {
+    pub kept: Slice<'a, Kept>,
+    pub watch: RawWatch<'a>,
+    pub changes: Slice<'a, RawChange<'a>>,
+    pub alarms: Slice<'a, Alarm>,
+    pub trust: [u8; 32],
+    pub marks: Slice<'a, u64>,
 }
 
 #[repr(C)]
@@ -213,448 +268,111 @@ pub struct StateNeeds {
     pub entry_step: usize,
 }
 
-mod c {
-    use super::*;
-
-    unsafe extern "C" {
-        pub fn coniks_core_feed(
-            policy: &[u8; 32],
-            kept: *mut Kept,
-            room: usize,
-            count: &mut usize,
-            watch: &Watch<'_>,
-            marks: *mut u64,
-            mark_count: usize,
-            entry: *const u8,
-            entry_length: usize,
-            verdict: u32,
-            time: u64,
-            why: &mut Why,
-        ) -> u32;
-        pub fn coniks_core_start(
-            policy: &[u8; 32],
-            kept: *mut Kept,
-            room: usize,
-            count: &mut usize,
-            watch: &Watch<'_>,
-            heads: *const Head,
-            head_count: usize,
-            quorum: usize,
-            entry: *const u8,
-            entry_length: usize,
-            verdict: u32,
-            time: u64,
-            why: &mut Why,
-        ) -> u32;
-        pub fn coniks_core_catch_up(catch_up: *const u8, length: usize, count: &mut usize) -> u32;
-        pub fn coniks_core_reply_needs(
-            kept: *const Kept,
-            count: usize,
-            reply: *const u8,
-            length: usize,
-            needs: &mut Needs,
-        ) -> u32;
-        pub fn coniks_core_lookup(
-            policy: &[u8; 32],
-            present: &Present,
-            kept: *mut Kept,
-            count: usize,
-            watch: &Watch<'_>,
-            changes: *mut Change<'_>,
-            change_count: usize,
-            asking: &Asking<'_>,
-            verdicts: &Verdicts,
-            found: &mut Found,
-            why: &mut Why,
-        ) -> u32;
-        pub fn coniks_core_history_needs(history: *const u8, length: usize, needs: &mut HistoryNeeds) -> u32;
-        pub fn coniks_core_history(
-            kept: *mut Kept,
-            count: usize,
-            watch: &Watch<'_>,
-            changes: *mut Change<'_>,
-            change_count: usize,
-            asking: &History<'_>,
-            verdicts: &Verdicts,
-            siblings: &mut Siblings,
-            steps: *mut Step<'_>,
-            room: usize,
-            step_count: &mut usize,
-        ) -> u32;
-        pub fn coniks_core_watch(
-            kept: *mut Kept,
-            count: usize,
-            watch: &mut Watch<'_>,
-            changes: *const Change<'_>,
-            change_count: usize,
-            wanted: &Watch<'_>,
-            is_since: u32,
-        ) -> u32;
-        pub fn coniks_core_expect(
-            kept: *const Kept,
-            count: usize,
-            watch: &Watch<'_>,
-            changes: *mut Change<'_>,
-            room: usize,
-            change_count: &mut usize,
-            key: *const u8,
-            key_length: usize,
-            by: u64,
-        ) -> u32;
-        pub fn coniks_core_compare(kept: *const Kept, count: usize, epoch: u64, link: &[u8; 32], place: &mut usize) -> u32;
-        pub fn coniks_core_evidence(
-            kept: *const Kept,
-            count: usize,
-            entry: *const u8,
-            entry_length: usize,
-            verdict: u32,
-            why: &mut Why,
-        ) -> u32;
-        pub fn coniks_core_quorum(auditors: usize, faulty: usize) -> usize;
-        pub fn coniks_core_mark(
-            kept: *const Kept,
-            count: usize,
-            marks: *mut u64,
-            mark_count: usize,
-            place: usize,
-            epoch: u64,
-            link: &[u8; 32],
-        ) -> u32;
-        pub fn coniks_core_confirmed(marks: *const u64, mark_count: usize, quorum: usize, epoch: &mut u64) -> u32;
-        pub fn coniks_core_relied(
-            kept: *const Kept,
-            count: usize,
-            place: usize,
-            marks: *const u64,
-            mark_count: usize,
-            quorum: usize,
-        ) -> u32;
-        pub fn coniks_core_cover(
-            present: &Present,
-            promise: &Promise,
-            kept: *mut Kept,
-            room: usize,
-            count: &mut usize,
-            marks: *const u64,
-            mark_count: usize,
-            quorum: usize,
-            watch: &mut Watch<'_>,
-            changes: *mut Change<'_>,
-            change_room: usize,
-            change_count: &mut usize,
-            alarms: *mut Alarm,
-            alarm_room: usize,
-            alarm_count: &mut usize,
-            covered: &mut Covered,
-        ) -> u32;
-        pub fn coniks_core_note(alarms: *mut Alarm, room: usize, alarm_count: &mut usize, epoch: u64) -> u32;
-        pub fn coniks_core_report(
-            present: &Present,
-            kept: *const Kept,
-            count: usize,
-            watch: &Watch<'_>,
-            promise: &Promise,
-            alarms: *const Alarm,
-            alarm_count: usize,
-            marks: *const u64,
-            mark_count: usize,
-            quorum: usize,
-            report: &mut Report,
-        ) -> u32;
-        pub fn coniks_core_lost(present: &Present, promise: &Promise, kept: *const Kept, count: usize, place: usize) -> u32;
-        pub fn coniks_core_state_size(policy: &[u8; 32], saved: &Saved<'_>, size: &mut usize) -> u32;
-        pub fn coniks_core_state_write(
-            policy: &[u8; 32],
-            saved: &Saved<'_>,
-            state: *mut u8,
-            room: usize,
-            size: &mut usize,
-        ) -> u32;
-        pub fn coniks_core_state_needs(policy: &[u8; 32], state: *const u8, length: usize, needs: &mut StateNeeds) -> u32;
-        pub fn coniks_core_state_read(
-            policy: &[u8; 32],
-            state: *const u8,
-            length: usize,
-            verdicts: *const u32,
-            verdict_count: usize,
-            trust: &[u8; 32],
-            kept: *mut Kept,
-            room: usize,
-            count: &mut usize,
-            watch: &mut Watch<'_>,
-            changes: *mut Change<'_>,
-            change_room: usize,
-            change_count: &mut usize,
-            alarms: *mut Alarm,
-            alarm_room: usize,
-            alarm_count: &mut usize,
-            marks: *mut u64,
-            auditors: usize,
-        ) -> u32;
-    }
-}
-
-// SAFETY of each call below: all pointers are those of slices and references, with their own lengths; they don't overlap, and are there
-// for the call. The core reads and writes within them, and keeps none.
-
-pub fn feed(
-    policy: &[u8; 32],
-    kept: &mut [Kept],
-    count: &mut usize,
-    watch: &Watch<'_>,
-    marks: &mut [u64],
-    entry: &[u8],
-    verdict: u32,
-    time: u64,
-    why: &mut Why,
-) -> u32 {
-    let (kept, room, marks, mark_count) = (kept.as_mut_ptr(), kept.len(), marks.as_mut_ptr(), marks.len());
-    let (entry, length) = (entry.as_ptr(), entry.len());
-    unsafe { c::coniks_core_feed(policy, kept, room, count, watch, marks, mark_count, entry, length, verdict, time, why) }
-}
-
-pub fn start(
-    policy: &[u8; 32],
-    kept: &mut [Kept],
-    count: &mut usize,
-    watch: &Watch<'_>,
-    heads: &[Head],
-    quorum: usize,
-    entry: &[u8],
-    verdict: u32,
-    time: u64,
-    why: &mut Why,
-) -> u32 {
-    let (kept, room, rows, head_count) = (kept.as_mut_ptr(), kept.len(), heads.as_ptr(), heads.len());
-    let (entry, length) = (entry.as_ptr(), entry.len());
-    unsafe {
-        c::coniks_core_start(policy, kept, room, count, watch, rows, head_count, quorum, entry, length, verdict, time, why)
-    }
-}
-
-pub fn catch_up(catch_up: &[u8], count: &mut usize) -> u32 {
-    unsafe { c::coniks_core_catch_up(catch_up.as_ptr(), catch_up.len(), count) }
-}
-
-pub fn reply_needs(kept: &[Kept], reply: &[u8], needs: &mut Needs) -> u32 {
-    unsafe { c::coniks_core_reply_needs(kept.as_ptr(), kept.len(), reply.as_ptr(), reply.len(), needs) }
-}
-
-pub fn lookup(
-    policy: &[u8; 32],
-    present: &Present,
-    kept: &mut [Kept],
-    watch: &Watch<'_>,
-    changes: &mut [Change<'_>],
-    asking: &Asking<'_>,
-    verdicts: &Verdicts,
-    found: &mut Found,
-    why: &mut Why,
-) -> u32 {
-    let (kept, count, rows, change_count) = (kept.as_mut_ptr(), kept.len(), changes.as_mut_ptr(), changes.len());
-    unsafe { c::coniks_core_lookup(policy, present, kept, count, watch, rows, change_count, asking, verdicts, found, why) }
-}
-
-pub fn history_needs(history: &[u8], needs: &mut HistoryNeeds) -> u32 {
-    unsafe { c::coniks_core_history_needs(history.as_ptr(), history.len(), needs) }
-}
-
-/// The steps have keys that are parts of the history's bytes.
-pub fn history<'a>(
-    kept: &mut [Kept],
-    watch: &Watch<'_>,
-    changes: &mut [Change<'_>],
-    asking: &History<'a>,
-    verdicts: &Verdicts,
-    steps: &mut [Step<'a>],
-    step_count: &mut usize,
-) -> u32 {
-    let (kept, count, rows, change_count) = (kept.as_mut_ptr(), kept.len(), changes.as_mut_ptr(), changes.len());
-    let (steps, room, siblings) = (steps.as_mut_ptr(), steps.len(), &mut Siblings { strings: [[0; 32]; 256] });
-    unsafe {
-        c::coniks_core_history(kept, count, watch, rows, change_count, asking, verdicts, siblings, steps, room, step_count)
-    }
-}
-
-/// Afterwards the watch points at what `wanted` does, if no name was watched.
-pub fn watch<'a>(kept: &mut [Kept], watch: &mut Watch<'a>, changes: &[Change<'_>], wanted: &Watch<'a>, is_since: bool) -> u32 {
-    let (kept, count, rows, change_count) = (kept.as_mut_ptr(), kept.len(), changes.as_ptr(), changes.len());
-    unsafe { c::coniks_core_watch(kept, count, watch, rows, change_count, wanted, is_since.into()) }
-}
-
-/// There is room for one change more than `change_count`.
-pub fn expect<'a>(
-    kept: &[Kept],
-    watch: &Watch<'_>,
-    changes: &mut [Change<'a>],
-    change_count: &mut usize,
-    key: &'a [u8],
-    by: u64,
-) -> u32 {
-    let (kept, count, rows, room) = (kept.as_ptr(), kept.len(), changes.as_mut_ptr(), changes.len());
-    unsafe { c::coniks_core_expect(kept, count, watch, rows, room, change_count, key.as_ptr(), key.len(), by) }
-}
-
-pub fn compare(kept: &[Kept], epoch: u64, link: &[u8; 32]) -> u32 {
-    unsafe { c::coniks_core_compare(kept.as_ptr(), kept.len(), epoch, link, &mut 0) }
-}
-
-pub fn evidence(kept: &[Kept], entry: &[u8], verdict: u32, why: &mut Why) -> u32 {
-    unsafe { c::coniks_core_evidence(kept.as_ptr(), kept.len(), entry.as_ptr(), entry.len(), verdict, why) }
-}
-
-pub fn quorum(auditors: usize, faulty: usize) -> usize {
-    unsafe { c::coniks_core_quorum(auditors, faulty) }
-}
-
-pub fn mark(kept: &[Kept], marks: &mut [u64], place: usize, epoch: u64, link: &[u8; 32]) -> u32 {
-    let (kept, count, marks, mark_count) = (kept.as_ptr(), kept.len(), marks.as_mut_ptr(), marks.len());
-    unsafe { c::coniks_core_mark(kept, count, marks, mark_count, place, epoch, link) }
-}
-
-pub fn confirmed(marks: &[u64], quorum: usize, epoch: &mut u64) -> u32 {
-    unsafe { c::coniks_core_confirmed(marks.as_ptr(), marks.len(), quorum, epoch) }
-}
-
-pub fn relied(kept: &[Kept], place: usize, marks: &[u64], quorum: usize) -> u32 {
-    unsafe { c::coniks_core_relied(kept.as_ptr(), kept.len(), place, marks.as_ptr(), marks.len(), quorum) }
-}
-
-/// What drops epochs: the arrays with the numbers of what they have, and the watch.
-pub struct Droppable<'m, 'a> {
-    pub kept: &'m mut [Kept],
-    pub count: &'m mut usize,
-    pub watch: &'m mut Watch<'a>,
-    pub changes: &'m mut [Change<'a>],
-    pub change_count: &'m mut usize,
-    pub alarms: &'m mut [Alarm],
-    pub alarm_count: &'m mut usize,
-}
-
-pub fn cover(
-    present: &Present,
-    promise: &Promise,
-    marks: &[u64],
-    quorum: usize,
-    it: Droppable<'_, '_>,
-    covered: &mut Covered,
-) -> u32 {
-    unsafe {
-        c::coniks_core_cover(
-            present,
-            promise,
-            it.kept.as_mut_ptr(),
-            it.kept.len(),
-            it.count,
-            marks.as_ptr(),
-            marks.len(),
-            quorum,
-            it.watch,
-            it.changes.as_mut_ptr(),
-            it.changes.len(),
-            it.change_count,
-            it.alarms.as_mut_ptr(),
-            it.alarms.len(),
-            it.alarm_count,
-            covered,
-        )
-    }
-}
-
-pub fn note(alarms: &mut [Alarm], alarm_count: &mut usize, epoch: u64) -> u32 {
-    unsafe { c::coniks_core_note(alarms.as_mut_ptr(), alarms.len(), alarm_count, epoch) }
-}
-
-pub fn report(
-    present: &Present,
-    kept: &[Kept],
-    watch: &Watch<'_>,
-    promise: &Promise,
-    alarms: &[Alarm],
-    marks: &[u64],
-    quorum: usize,
-    report: &mut Report,
-) -> u32 {
-    let (kept, count, alarms, alarm_count) = (kept.as_ptr(), kept.len(), alarms.as_ptr(), alarms.len());
-    let (marks, mark_count) = (marks.as_ptr(), marks.len());
-    unsafe {
-        c::coniks_core_report(present, kept, count, watch, promise, alarms, alarm_count, marks, mark_count, quorum, report)
-    }
-}
-
-pub fn is_lost(present: &Present, promise: &Promise, kept: &[Kept], place: usize) -> bool {
-    unsafe { c::coniks_core_lost(present, promise, kept.as_ptr(), kept.len(), place) == 1 }
-}
-
-/// What a client saves in a state beside its policy.
-pub struct Parts<'m> {
-    pub kept: &'m [Kept],
-    pub watch: Watch<'m>,
-    pub changes: &'m [Change<'m>],
-    pub alarms: &'m [Alarm],
-    pub trust: [u8; 32],
-    pub marks: &'m [u64],
-}
-
-/// Returns the bytes of a state, or the status of an error.
-pub fn state(policy: &[u8; 32], parts: &Parts<'_>) -> Result<Vec<u8>, u32> {
-    let saved = Saved {
-        kept: parts.kept.as_ptr(),
-        count: parts.kept.len(),
-        watch: parts.watch,
-        changes: parts.changes.as_ptr(),
-        change_count: parts.changes.len(),
-        alarms: parts.alarms.as_ptr(),
-        alarm_count: parts.alarms.len(),
-        trust: parts.trust,
-        marks: parts.marks.as_ptr(),
-        mark_count: parts.marks.len(),
+/// Declares functions of the core, which are called `coniks_core_` and their names there. Each slice is passed as its pointer and its length,
+/// and an array with its room and a pointer to its count. A function that returns a status with a value passes a pointer to the value too,
+/// as its last one.
+macro_rules! calls {
+    ($(fn $name:ident $(<$life:lifetime>)? ($($given:tt)*) -> $returned:tt;)*) => {
+        $(calls! { @ ($name [$($life)?] $returned) [] [] [] $($given)*, })*
     };
-    let mut size = 0;
-    let status = unsafe { c::coniks_core_state_size(policy, &saved, &mut size) };
-    if status != 0 {
-        return Err(status);
-    }
-    let mut state = vec![0; size];
-    match unsafe { c::coniks_core_state_write(policy, &saved, state.as_mut_ptr(), state.len(), &mut size) } {
-        0 => Ok(state),
-        status => Err(status),
-    }
+    // What is given moves from the end to three lists: as it is given here, as C takes it, and how it is passed.
+    (@ $what:tt [$($own:tt)*] [$($raw:tt)*] [$($passed:tt)*] $it:ident: &mut Array<$of:ty>, $($rest:tt)*) => {
+        calls! {
+            @ $what [$($own)* $it: &mut Array<$of>,] [$($raw)* $it: *mut $of, _: usize, _: &mut usize,]
+            [$($passed)* $it.memory.as_mut_ptr(), $it.memory.len(), &mut $it.count,] $($rest)*
+        }
+    };
+    (@ $what:tt [$($own:tt)*] [$($raw:tt)*] [$($passed:tt)*] $it:ident: &mut [$of:ty], $($rest:tt)*) => {
+        calls! {
+            @ $what [$($own)* $it: &mut [$of],] [$($raw)* $it: *mut $of, _: usize,]
+            [$($passed)* $it.as_mut_ptr(), $it.len(),] $($rest)*
+        }
+    };
+    (@ $what:tt [$($own:tt)*] [$($raw:tt)*] [$($passed:tt)*] $it:ident: &$($of_life:lifetime)? [$of:ty], $($rest:tt)*) => {
+        calls! {
+            @ $what [$($own)* $it: &$($of_life)? [$of],] [$($raw)* $it: *const $of, _: usize,]
+            [$($passed)* $it.as_ptr(), $it.len(),] $($rest)*
+        }
+    };
+    (@ $what:tt [$($own:tt)*] [$($raw:tt)*] [$($passed:tt)*] $it:ident: $type:ty, $($rest:tt)*) => {
+        calls! { @ $what [$($own)* $it: $type,] [$($raw)* $it: $type,] [$($passed)* $it,] $($rest)* }
+    };
+    (@ ($name:ident [$($life:lifetime)?] (u32, $value:ty)) [$($own:tt)*] [$($raw:tt)*] [$($passed:tt)*]) => {
+        pub fn $name<$($life)?>($($own)*) -> (u32, $value) {
+            unsafe extern "C" {
+                #[link_name = concat!("coniks_core_", stringify!($name))]
+                fn call<$($life)?>($($raw)* value: &mut $value) -> u32;
+            }
+            let mut value = <$value>::default();
+            // SAFETY: all pointers are those of slices and references, with their own lengths; they don't overlap, and are there for the
+            // call. The core reads and writes within them, and keeps none.
+            let status = unsafe { call($($passed)* &mut value) };
+            (status, value)
+        }
+    };
+    (@ ($name:ident [$($life:lifetime)?] $returned:ty) [$($own:tt)*] [$($raw:tt)*] [$($passed:tt)*]) => {
+        pub fn $name<$($life)?>($($own)*) -> $returned {
+            unsafe extern "C" {
+                #[link_name = concat!("coniks_core_", stringify!($name))]
+                fn call<$($life)?>($($raw)*) -> $returned;
+            }
+            // SAFETY: as above.
+            unsafe { call($($passed)*) }
+        }
+    };
 }
 
-pub fn state_needs(policy: &[u8; 32], state: &[u8], needs: &mut StateNeeds) -> u32 {
-    unsafe { c::coniks_core_state_needs(policy, state.as_ptr(), state.len(), needs) }
-}
-
-/// The watch and the changes have texts that are parts of the state's bytes.
-pub fn state_read<'a>(
-    policy: &[u8; 32],
-    state: &'a [u8],
-    verdicts: &[u32],
-    trust: &[u8; 32],
-    it: Droppable<'_, 'a>,
-    marks: &mut [u64],
-) -> u32 {
-    unsafe {
-        c::coniks_core_state_read(
-            policy,
-            state.as_ptr(),
-            state.len(),
-            verdicts.as_ptr(),
-            verdicts.len(),
-            trust,
-            it.kept.as_mut_ptr(),
-            it.kept.len(),
-            it.count,
-            it.watch,
-            it.changes.as_mut_ptr(),
-            it.changes.len(),
-            it.change_count,
-            it.alarms.as_mut_ptr(),
-            it.alarms.len(),
-            it.alarm_count,
-            marks.as_mut_ptr(),
-            marks.len(),
-        )
-    }
+calls! {
+    fn feed(
+        policy: &[u8; 32], kept: &mut Array<Kept>, watch: &RawWatch<'_>, marks: &mut [u64], entry: &[u8], verdict: u32,
+        time: u64
+    ) -> (u32, Why);
+    fn start(
+        policy: &[u8; 32], kept: &mut Array<Kept>, watch: &RawWatch<'_>, heads: &[Head], quorum: usize, entry: &[u8],
+        verdict: u32, time: u64
+    ) -> (u32, Why);
+    fn catch_up(catch_up: &[u8]) -> (u32, usize);
+    fn reply_needs(kept: &[Kept], reply: &[u8]) -> (u32, Needs);
+    fn lookup(
+        policy: &[u8; 32], present: &Present, kept: &mut [Kept], watch: &RawWatch<'_>, changes: &mut [RawChange<'_>],
+        asking: &Asking<'_>, verdicts: &Verdicts, found: &mut Found
+    ) -> (u32, Why);
+    fn history_needs(history: &[u8]) -> (u32, HistoryNeeds);
+    // The steps have keys that are parts of the history's bytes.
+    fn history<'a>(
+        kept: &mut [Kept], watch: &RawWatch<'_>, changes: &mut [RawChange<'_>], asking: &History<'a>, verdicts: &Verdicts,
+        siblings: &mut Siblings, steps: &mut [Step<'a>]
+    ) -> (u32, usize);
+    // Afterwards the watch points at what `wanted` does, if no name was watched.
+    fn watch<'a>(
+        kept: &mut [Kept], watch: &mut RawWatch<'a>, changes: &[RawChange<'_>], wanted: &RawWatch<'a>, is_since: u32
+    ) -> u32;
+    fn expect<'a>(
+        kept: &[Kept], watch: &RawWatch<'_>, changes: &mut Array<RawChange<'a>>, key: &'a [u8], by: u64
+    ) -> u32;
+    fn compare(kept: &[Kept], epoch: u64, link: &[u8; 32]) -> (u32, usize);
+    fn evidence(kept: &[Kept], entry: &[u8], verdict: u32) -> (u32, Why);
+    fn quorum(auditors: usize, faulty: usize) -> usize;
+    fn mark(kept: &[Kept], marks: &mut [u64], place: usize, epoch: u64, link: &[u8; 32]) -> u32;
+    fn confirmed(marks: &[u64], quorum: usize) -> (u32, u64);
+    fn relied(kept: &[Kept], place: usize, marks: &[u64], quorum: usize) -> u32;
+    // Afterwards the watch points at the key of the last change that was dropped.
+    fn cover<'a>(
+        present: &Present, promise: &Promise, kept: &mut Array<Kept>, marks: &[u64], quorum: usize, watch: &mut RawWatch<'a>,
+        changes: &mut Array<RawChange<'a>>, alarms: &mut Array<Alarm>
+    ) -> (u32, Covered);
+    fn note(alarms: &mut Array<Alarm>, epoch: u64) -> u32;
+    fn report(
+        present: &Present, kept: &[Kept], watch: &RawWatch<'_>, promise: &Promise, alarms: &[Alarm], marks: &[u64],
+        quorum: usize
+    ) -> (u32, Report);
+    fn lost(present: &Present, promise: &Promise, kept: &[Kept], place: usize) -> u32;
+    fn state_size(policy: &[u8; 32], saved: &Saved<'_>) -> (u32, usize);
+    fn state_write(policy: &[u8; 32], saved: &Saved<'_>, state: &mut [u8]) -> (u32, usize);
+    fn state_needs(policy: &[u8; 32], state: &[u8]) -> (u32, StateNeeds);
+    // The watch and the changes have texts that are parts of the state's bytes.
+    fn state_read<'a>(
+        policy: &[u8; 32], state: &'a [u8], verdicts: &[u32], trust: &[u8; 32], kept: &mut Array<Kept>,
+        watch: &mut RawWatch<'a>, changes: &mut Array<RawChange<'a>>, alarms: &mut Array<Alarm>, marks: &mut [u64]
+    ) -> u32;
 }

@@ -453,6 +453,21 @@ fn the_last_epoch_number_at_any_time() {
     }
 }
 
+/// Two periods are 2^64 seconds: the latest epoch is never too old.
+#[test]
+fn two_long_periods_do_not_wrap_around() {
+    let document = POLICY.replace("epoch-period 3600", "epoch-period 9223372036854775808");
+    let digest = Policy::read(document.as_bytes()).expect("a policy").digest();
+    let mut entry = entry_of(1, 0, [0; 32]);
+    entry[113..145].copy_from_slice(&digest);
+    let reply = [&[1][..], &entry, &[0, 0], &[0, 0, 0]].concat();
+    for now in [START + 1, u64::MAX] {
+        let mut client = credulous(&document, now);
+        assert_eq!(client.feed([&entry]).map(|it| it.len()), Ok(1));
+        assert_eq!(client.lookup("alice", &reply, None).unwrap_err().cause, Cause::RootMismatch);
+    }
+}
+
 /// A client to which each signature is good, which watches alice from epoch 1 on, and its clock. It was fed entries with these
 /// numbers, under the example's policy with other lines. With `is_digest` it has no document.
 fn watching(changes: &[(&str, &str)], is_digest: bool, epochs: &[u64]) -> (Client, Time) {

@@ -1,4 +1,4 @@
-//! Why a client refuses something, and what convicts a provider.
+//! Why a client refuses something, what its caller must not do, and what convicts a provider.
 
 use crate::{Error, EvidenceKind, ENTRY_BYTES};
 use core::fmt;
@@ -145,6 +145,59 @@ impl fmt::Display for Cause {
         }
     }
 }
+
+macro_rules! misuses {
+    ($($(#[$doc:meta])* $name:ident = $number:literal: $text:literal;)*) => {
+        /// A call that the client's caller must not make. The client is unchanged.
+        #[derive(Clone, Copy, Debug, PartialEq, Eq, Hash)]
+        #[non_exhaustive]
+        pub enum Misuse {
+            $($(#[$doc])* $name,)*
+        }
+
+        impl Misuse {
+            /// Returns the misuse of a status of the core, which has no other ones for such a call.
+            pub(super) fn of(status: u32) -> Result<(), Self> {
+                match status {
+                    0 => Ok(()),
+                    $($number => Err(Self::$name),)*
+                    _ => Err(Self::NoAuditor),
+                }
+            }
+        }
+
+        impl fmt::Display for Misuse {
+            fn fmt(&self, f: &mut fmt::Formatter<'_>) -> fmt::Result {
+                f.write_str(match self {
+                    $(Self::$name => $text,)*
+                })
+            }
+        }
+    };
+}
+
+misuses! {
+    /// The name has no byte, or more than 255.
+    NameLength = 130: "a name has 1 to 255 bytes";
+    /// The expected key has no byte, or 2^32 or more.
+    KeyLength = 131: "an expected key has at least one byte, and less than 2^32; None expects none";
+    /// The client watches another name, another key, or from another epoch on.
+    OtherWatch = 132: "this client watches another name or key: use `expect`, or make another client";
+    /// The client watches no name.
+    NotWatching = 133: "no name is watched: call `watch` first";
+    /// Another change of the key is not over.
+    ChangeOpen = 134: "another change is expected: expect the next one after it is over";
+    /// The new key is the one that is expected already.
+    SameKey = 135: "the new key is the one that is expected already";
+    /// The epoch by which the new key is expected is not after the latest one.
+    NotLater = 136: "this epoch is in the chain: expect the new key by a later one";
+    /// The trust document has no such auditor.
+    NoAuditor = 138: "the trust document has no such auditor";
+    /// Three times the auditors that may be faulty are not fewer than all.
+    TooManyFaulty = 144: "more than three auditors are needed for each one that may be faulty";
+}
+
+impl core::error::Error for Misuse {}
 
 /// Two signed entries that convict the owner of the signing key. Publish both.
 #[derive(Clone, Debug, PartialEq, Eq)]

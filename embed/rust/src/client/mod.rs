@@ -45,17 +45,17 @@ mod schemes;
 mod verdicts;
 mod watched;
 
-pub use cause::{Cause, Evidence, Refusal};
-pub use policy::{Policy, PolicyError};
+pub use cause::{Cause, Evidence, Misuse, Refusal};
+pub use policy::{Policy, PolicyError, PolicyOrDigest};
 pub use schemes::{Ecvrf, Ed25519, IndexScheme, Keys, SignatureScheme, SigningKey, VrfKey};
-pub use watched::{Alarm, Misuse, Report, Trust, Watched};
+pub use watched::{Alarm, Report, Trust, Watched};
 
-use crate::client_core::{self as core_calls, Text, Why, NOT_CONFIRMED, NOWHERE};
+use crate::client_core::{self as core_calls, Array, Promise, RawWatch, Slice, Text, Why, NOT_CONFIRMED, NOWHERE};
 use crate::{convicts, link, Body, Error, EvidenceKind, Head, ENTRY_BYTES, NO_EVIDENCE};
 use core::fmt;
 use core::num::NonZeroUsize;
 use core::time::Duration;
-use memory::{raw, Memory, Watching, NO_EPOCH};
+use memory::{Memory, Watching};
 use policy::EpochClock;
 use std::boxed::Box;
 use std::collections::BTreeMap;
@@ -65,7 +65,6 @@ use std::time::{SystemTime, UNIX_EPOCH};
 use std::vec;
 use std::vec::Vec;
 use verdicts::part;
-use watched::{misuse_of, seen_of};
 
 /// What the core says of a reply that shows a key.
 const SHOWS_KEY: u32 = 1;
@@ -96,27 +95,6 @@ impl fmt::Debug for Settings {
     fn fmt(&self, f: &mut fmt::Formatter<'_>) -> fmt::Result {
         let mut it = f.debug_struct("Settings");
         it.field("max_age", &self.max_age).field("skew", &self.skew).field("trust", &self.trust).finish_non_exhaustive()
-    }
-}
-
-/// A directory's policy, or its digest alone, which has no clock and no keys.
-#[derive(Clone, Debug, PartialEq, Eq)]
-pub enum PolicyOrDigest {
-    /// The policy of its document.
-    Policy(Policy),
-    /// The policy digest.
-    Digest([u8; 32]),
-}
-
-impl From<Policy> for PolicyOrDigest {
-    fn from(policy: Policy) -> Self {
-        Self::Policy(policy)
-    }
-}
-
-impl From<[u8; 32]> for PolicyOrDigest {
-    fn from(digest: [u8; 32]) -> Self {
-        Self::Digest(digest)
     }
 }
 
@@ -173,12 +151,11 @@ pub struct Client {
     keys: Keys,
     digest: [u8; 32],
     epochs: Option<EpochClock>,
-    promise: core_calls::Promise,
-    /// In whole seconds.
-    max_age: u64,
-    skew: u64,
+    /// The policy's clock and the client's limits, before the time is known.
+    present: core_calls::Present,
+    promise: Promise,
     clock: Clock,
-    trust: Option<Trust>,
+    trust: Trust,
     memory: Memory,
 }
 
@@ -205,11 +182,14 @@ impl Client {
             PolicyOrDigest::Digest(it) => (it, None, None),
         };
         let Settings { max_age, skew, clock, trust } = settings;
-        let two_periods = || epochs.map_or(0, |it| it.period.get().saturating_mul(2));
-        let max_age = max_age.map_or_else(two_periods, |it| it.as_secs());
-        let promise = core_calls::Promise { is_limited: proofs_kept.is_some().into(), seconds: proofs_kept.unwrap_or(0) };
-        let memory = Memory::new(trust.map_or(0, |it| it.auditors));
-        Ok(Self { keys, digest, epochs, promise, max_age, skew: skew.as_secs(), clock, trust, memory })
+        let (start, period) = epochs.map_or((0, 0), |it| (it.start, it.period.get()));
+        let max_age = max_age.map_or(period.saturating_mul(2), |it| it.as_secs());
+        let has_clock = epochs.is_some().into();
+        let present = core_calls::Present { has_clock, start, period, max_age, skew: skew.as_secs(), time: 0 };
+        let promise = Promise { is_limited: proofs_kept.is_some().into(), seconds: proofs_kept.unwrap_or(0) };
+        let trust = trust.unwrap_or(Trust::NONE);
+        let memory = Memory { marks: vec![0; trust.auditors], ..Memory::default() };
+        Ok(Self { keys, digest, epochs, present, promise, clock, trust, memory })
     }
 
     /// Returns a client that goes on from the state of another one. Its marks are those of the state if that has the same trust document
@@ -244,12 +224,11 @@ impl Client {
         let mut client = Self::new(keys, policy, settings)?;
         let row = |it: &Head| core_calls::Head { is_there: 1, epoch: it.epoch, link: it.link };
         let rows: Vec<core_calls::Head> = heads.values().map(row).collect();
-        let (verdict, now, mut why) = (verdicts::of_entry(&client.keys, entry), client.seconds(), Why::default());
-        client.memory.kept.reserve(1, NO_EPOCH);
-        let (kept, count) = client.memory.kept.all();
-        let watch = core_calls::Watch::default();
-        let status = core_calls::start(&client.digest, kept, count, &watch, &rows, least.get(), entry, verdict, now, &mut why);
-        client.accepted(status, &why, entry)?;
+        let (verdict, now) = (verdicts::of_entry(&client.keys, entry), client.now());
+        let (kept, watch) = (&mut client.memory.kept, RawWatch::default());
+        kept.reserve(1);
+        let told = core_calls::start(&client.digest, kept, &watch, &rows, least.get(), entry, verdict, now);
+        client.accepted(told, entry)?;
         Ok(client)
     }
 }
@@ -272,29 +251,27 @@ impl Client {
     ///
     /// [`Cause::CatchUpLength`], and then nothing is kept; else as [`Client::feed`].
     pub fn feed_catch_up(&mut self, catch_up: &[u8]) -> Result<Vec<Step>, Refusal> {
-        let mut count = 0;
-        refused(core_calls::catch_up(catch_up, &mut count))?;
+        let count = good(core_calls::catch_up(catch_up))?;
         self.feed(catch_up.chunks_exact(ENTRY_BYTES).take(count))
     }
 
     fn feed_one(&mut self, entry: &[u8]) -> Result<Step, Refusal> {
-        let (verdict, now, mut why) = (verdicts::of_entry(&self.keys, entry), self.seconds(), Why::default());
+        let (verdict, now) = (verdicts::of_entry(&self.keys, entry), self.now());
         let Memory { kept, watching, marks, .. } = &mut self.memory;
-        kept.reserve(1, NO_EPOCH);
-        let ((memory, count), (watch, _)) = (kept.all(), raw(watching.as_ref()));
-        let status = core_calls::feed(&self.digest, memory, count, &watch, marks, entry, verdict, now, &mut why);
-        self.accepted(status, &why, entry)?;
+        kept.reserve(1);
+        let told = core_calls::feed(&self.digest, kept, &watching.raw().0, marks, entry, verdict, now);
+        self.accepted(told, entry)?;
         let latest = self.memory.kept.get().last().ok_or(Cause::UnknownEpoch)?;
-        Ok(Step { epoch: epoch_of(latest), seen: seen_of(latest.seen.into()) })
+        Ok(Step { epoch: epoch_of(latest), seen: Watched::of(latest.seen.into()) })
     }
 
     /// Returns the refusal of a status, with what convicts together with an entry.
-    fn accepted(&self, status: u32, why: &Why, entry: &[u8]) -> Result<(), Refusal> {
+    fn accepted(&self, (status, why): (u32, Why), entry: &[u8]) -> Result<(), Refusal> {
         if status == 0 {
             return Ok(());
         }
         let own_status = (why.status != 0).then(|| Error::of(why.status));
-        Err(Refusal::with(Cause::of(status), own_status, self.evidence_of(why, entry)))
+        Err(Refusal::with(Cause::of(status), own_status, self.evidence_of(&why, entry)))
     }
 
     fn evidence_of(&self, why: &Why, entry: &[u8]) -> Option<Evidence> {
@@ -317,7 +294,7 @@ impl Client {
 
     /// Returns whether a head is one of the chain, as far as its entries are kept.
     pub fn compare(&self, head: &Head) -> Comparison {
-        Comparison::of(core_calls::compare(self.memory.kept.get(), head.epoch, &head.link))
+        Comparison::of(core_calls::compare(self.memory.kept.get(), head.epoch, &head.link).0)
     }
 
     /// Drops the entries before that of an auditor's head, if it is one of this chain: the auditor's chain has them. Epochs that are
@@ -325,8 +302,8 @@ impl Client {
     /// [`Settings::trust`] it only compares, since one auditor confirms nothing: call [`Client::mark`] and [`Client::drop_confirmed`].
     pub fn cover(&mut self, head: &Head) -> Comparison {
         let found = self.compare(head);
-        if found == Comparison::Equal && self.trust.is_none() {
-            self.drop_until(Some((&[head.epoch], 1)));
+        if found == Comparison::Equal && self.trust == Trust::NONE {
+            self.drop_by(&[head.epoch], 1);
         }
         found
     }
@@ -337,17 +314,13 @@ impl Client {
     ///
     /// [`Cause::EntryLength`], and [`Cause::Signature`] if the entry is not signed.
     pub fn evidence(&self, other_entry: &[u8]) -> Result<Option<Evidence>, Refusal> {
-        let (verdict, mut why) = (verdicts::of_entry(&self.keys, other_entry), Why::default());
-        match core_calls::evidence(self.memory.kept.get(), other_entry, verdict, &mut why) {
-            NO_EVIDENCE => {
-                let (other, kind) = (other_entry.try_into().ok(), convicts(other_entry, other_entry)?);
-                Ok(other.zip(kind).map(|(other, kind)| Evidence { mine: other, other, kind }))
-            }
-            status => {
-                refused(status)?;
-                Ok(self.evidence_of(&why, other_entry))
-            }
+        let verdict = verdicts::of_entry(&self.keys, other_entry);
+        let (status, why) = core_calls::evidence(self.memory.kept.get(), other_entry, verdict);
+        if status != NO_EVIDENCE {
+            return good((status, self.evidence_of(&why, other_entry)));
         }
+        let (other, kind) = (other_entry.try_into().ok(), convicts(other_entry, other_entry)?);
+        Ok(other.zip(kind).map(|(other, kind)| Evidence { mine: other, other, kind }))
     }
 }
 
@@ -370,8 +343,7 @@ impl Client {
     /// Returns the latest epoch that a quorum of the auditors confirms, None if there is none.
     #[must_use]
     pub fn confirmed(&self) -> Option<u64> {
-        let mut epoch = 0;
-        let status = core_calls::confirmed(&self.memory.marks, self.quorum(), &mut epoch);
+        let (status, epoch) = core_calls::confirmed(&self.memory.marks, self.trust.quorum);
         (status == 0).then_some(epoch)
     }
 
@@ -383,36 +355,28 @@ impl Client {
     pub fn is_relied(&self, epoch: u64) -> Result<bool, Refusal> {
         let kept = self.memory.kept.get();
         let place = kept.binary_search_by_key(&epoch, epoch_of).unwrap_or(NOWHERE);
-        match core_calls::relied(kept, place, &self.memory.marks, self.quorum()) {
+        match core_calls::relied(kept, place, &self.memory.marks, self.trust.quorum) {
             NOT_CONFIRMED => Ok(false),
-            status => refused(status).map(|()| true),
+            status => good((status, true)),
         }
     }
 
     /// Drops the first epochs: those before the confirmed one, and before the first missing one that is not lost. Returns them. Each
     /// watched one that was not seen as the same leaves an alarm. No reply for a dropped epoch is accepted: ask for missing ones first.
     pub fn drop_confirmed(&mut self) -> Vec<u64> {
-        self.drop_until(None)
+        self.drop_by(&self.memory.marks.clone(), self.trust.quorum)
     }
 
-    /// Drops epochs by other marks and another quorum than the client's, if they are given.
-    fn drop_until(&mut self, given: Option<(&[u64], usize)>) -> Vec<u64> {
-        let (present, promise, own_quorum) = (self.present(self.now()), self.promise, self.quorum());
+    /// Drops the epochs before the one that a quorum of marks confirms.
+    fn drop_by(&mut self, marks: &[u64], quorum: usize) -> Vec<u64> {
+        let present = self.present(self.now());
         let epochs: Vec<u64> = self.memory.kept.get().iter().map(epoch_of).collect();
-        self.memory.alarms.reserve(epochs.len(), core_calls::Alarm::default());
-        let (watching, mut covered) = (self.memory.watching.take(), core_calls::Covered::default());
-        let (watch, changes) = raw(watching.as_ref());
-        let count = changes.len();
-        let (status, settled) = self.memory.written((watch, changes), count, |it, own_marks| {
-            let (marks, quorum) = given.unwrap_or((own_marks, own_quorum));
-            core_calls::cover(&present, &promise, marks, quorum, it, &mut covered)
-        });
-        self.memory.watching = if status == 0 { settled } else { watching };
+        let Memory { kept, watching, alarms, .. } = &mut self.memory;
+        alarms.reserve(epochs.len());
+        let (mut watch, mut changes) = watching.raw();
+        let (_, covered) = core_calls::cover(&present, &self.promise, kept, marks, quorum, &mut watch, &mut changes, alarms);
+        *watching = Watching::of(&watch, &changes);
         epochs.into_iter().take(covered.epochs).collect()
-    }
-
-    fn quorum(&self) -> usize {
-        self.trust.map_or(0, |it| it.quorum)
     }
 }
 
@@ -424,21 +388,20 @@ impl Client {
     ///
     /// The first cause in the order of `docs/FORMATS.md`, "A client's lookup".
     pub fn lookup(&mut self, name: impl AsRef<[u8]>, reply: &[u8], epoch: Option<u64>) -> Result<Found, Refusal> {
-        let (name, mut needs) = (name.as_ref(), core_calls::Needs::default());
-        refused(core_calls::reply_needs(self.memory.kept.get(), reply, &mut needs))?;
-        let (now, mut shown, mut why) = (self.now(), core_calls::Found::default(), Why::default());
-        let verdicts = verdicts::of_reply(&self.keys, name, reply, &needs);
+        let name = name.as_ref();
+        let needs = good(core_calls::reply_needs(self.memory.kept.get(), reply))?;
+        let (now, verdicts) = (self.now(), verdicts::of_reply(&self.keys, name, reply, &needs));
         let asking = core_calls::Asking {
             name: Text::of(name),
             reply: Text::of(reply),
             is_asked: epoch.is_some().into(),
             epoch: epoch.unwrap_or(0),
         };
-        let present = self.present(now);
-        let status = self.memory.marked(|kept, watch, changes| {
-            core_calls::lookup(&self.digest, &present, kept, watch, changes, &asking, &verdicts, &mut shown, &mut why)
+        let (present, mut shown) = (self.present(now), core_calls::Found::default());
+        let told = self.memory.marked(|kept, watch, changes| {
+            core_calls::lookup(&self.digest, &present, kept, watch, changes, &asking, &verdicts, &mut shown)
         });
-        self.accepted(status, &why, part(reply, needs.entry_start, ENTRY_BYTES))?;
+        self.accepted(told, part(reply, needs.entry_start, ENTRY_BYTES))?;
         let key = (shown.shows == SHOWS_KEY).then(|| Arc::from(part(reply, shown.key_start, shown.key_length)));
         Ok(self.found(shown.place, key, shown.seen, now)?)
     }
@@ -449,61 +412,43 @@ impl Client {
     ///
     /// The first cause in the order of `docs/FORMATS.md`: of the bytes, of the VRF proof, of the steps. Nothing is kept then.
     pub fn history(&mut self, name: impl AsRef<[u8]>, history: &[u8]) -> Result<Vec<Found>, Refusal> {
-        let (name, mut needs) = (name.as_ref(), core_calls::HistoryNeeds::default());
-        refused(core_calls::history_needs(history, &mut needs))?;
-        let (now, verdicts) = (self.now(), verdicts::of_history(&self.keys, name, history, &needs));
+        let name = name.as_ref();
+        let needs = good(core_calls::history_needs(history))?;
+        let proof = part(history, needs.vrf_start, needs.vrf_length);
+        let (now, verdicts) = (self.now(), verdicts::of_index(&self.keys, name, proof));
         let asking = core_calls::History { name: Text::of(name), history: Text::of(history) };
+        let mut siblings = core_calls::Siblings { strings: [[0; 32]; 256] };
         let mut steps = vec![core_calls::Step::default(); self.memory.kept.get().len() + 1];
-        let mut count = 0;
-        let status = self.memory.marked(|kept, watch, changes| {
-            core_calls::history(kept, watch, changes, &asking, &verdicts, &mut steps, &mut count)
+        let told = self.memory.marked(|kept, watch, changes| {
+            core_calls::history(kept, watch, changes, &asking, &verdicts, &mut siblings, &mut steps)
         });
-        refused(status)?;
-        let mut found = Vec::with_capacity(count);
-        let mut last: Option<(&[u8], Arc<[u8]>)> = None;
-        for it in steps.iter().take(count) {
-            let bytes = it.key.get();
+        steps.truncate(good(told)?);
+        let mut last: (&[u8], Arc<[u8]>) = (&[], Arc::default());
+        let found = steps.iter().map(|it| {
             // A key that a history repeats is one allocation, however long it is.
-            let key = match &last {
-                Some((before, key)) if before.as_ptr_range() == bytes.as_ptr_range() => key.clone(),
-                _ => Arc::from(bytes),
-            };
-            last = Some((bytes, key.clone()));
-            found.push(self.found(it.place, (it.shows == SHOWS_KEY).then_some(key), it.seen, now)?);
-        }
-        Ok(found)
+            let key = it.key.get();
+            if key.as_ptr_range() != last.0.as_ptr_range() {
+                last = (key, Arc::from(key));
+            }
+            self.found(it.place, (it.shows == SHOWS_KEY).then(|| last.1.clone()), it.seen, now)
+        });
+        Ok(found.collect::<Result<_, _>>()?)
     }
 
-    fn found(&self, place: usize, key: Option<Arc<[u8]>>, seen: u32, now: Duration) -> Result<Found, Cause> {
+    fn found(&self, place: usize, key: Option<Arc<[u8]>>, seen: u32, now: u64) -> Result<Found, Cause> {
         let kept = self.memory.kept.get().get(place).ok_or(Cause::UnknownEpoch)?;
         let epoch = epoch_of(kept);
-        let first_seen = u64::from_be_bytes(kept.first_seen);
-        Ok(Found { epoch, key, seen: seen_of(seen), age: self.age(epoch, now), first_seen })
+        let age = self.epochs.map(|it| it.age(epoch, now));
+        Ok(Found { epoch, key, seen: Watched::of(seen), age, first_seen: u64::from_be_bytes(kept.first_seen) })
     }
 
-    fn now(&self) -> Duration {
-        (self.clock)()
+    /// Returns the time, in whole seconds.
+    fn now(&self) -> u64 {
+        (self.clock)().as_secs()
     }
 
-    fn seconds(&self) -> u64 {
-        self.now().as_secs()
-    }
-
-    fn present(&self, now: Duration) -> core_calls::Present {
-        let (start, period) = self.epochs.map_or((0, 0), |it| (it.start, it.period.get()));
-        core_calls::Present {
-            has_clock: self.epochs.is_some().into(),
-            start,
-            period,
-            max_age: self.max_age,
-            skew: self.skew,
-            time: now.as_secs(),
-        }
-    }
-
-    fn age(&self, epoch: u64, now: Duration) -> Option<i128> {
-        let begins = self.epochs?.begins(epoch);
-        Some(i128::from(now.as_secs()).saturating_sub(begins.try_into().unwrap_or(i128::MAX)))
+    fn present(&self, time: u64) -> core_calls::Present {
+        core_calls::Present { time, ..self.present }
     }
 }
 
@@ -516,19 +461,15 @@ impl Client {
     ///
     /// [`Misuse`] for another name, key or first epoch than before, and for a name or key that no directory has.
     pub fn watch(&mut self, name: impl AsRef<[u8]>, key: Option<&[u8]>, since: Option<u64>) -> Result<(), Misuse> {
-        let (name, no_key) = (name.as_ref(), key.is_some_and(<[u8]>::is_empty));
-        let Memory { kept, watching, .. } = &mut self.memory;
-        let wanted = core_calls::Watch {
-            is_watched: 1,
-            name: Text::of(name),
-            since: since.unwrap_or(0),
-            key: Text::of(key.unwrap_or_default()),
-        };
-        if no_key && (1..=255).contains(&name.len()) {
+        let name = name.as_ref();
+        if matches!(key, Some([])) && (1..=255).contains(&name.len()) {
             return Err(Misuse::KeyLength);
         }
-        let (mut watch, changes) = raw(watching.as_ref());
-        misuse_of(core_calls::watch(kept.get_mut(), &mut watch, &changes, &wanted, since.is_some()))?;
+        let (name, key) = (Text::of(name), Text::of(key.unwrap_or_default()));
+        let wanted = RawWatch { is_watched: 1, name, since: since.unwrap_or(0), key };
+        let Memory { kept, watching, .. } = &mut self.memory;
+        let (mut watch, changes) = watching.raw();
+        Misuse::of(core_calls::watch(kept.get_mut(), &mut watch, changes.get(), &wanted, since.is_some().into()))?;
         *watching = Watching::of(&watch, &changes);
         Ok(())
     }
@@ -542,14 +483,12 @@ impl Client {
     /// until the chain has its epoch `by` or a later one, or an epoch showed its key.
     pub fn expect(&mut self, new_key: Option<&[u8]>, by: u64) -> Result<(), Misuse> {
         let Memory { kept, watching, .. } = &mut self.memory;
-        if watching.is_some() && new_key.is_some_and(<[u8]>::is_empty) {
+        if matches!(new_key, Some([])) && watching.is_there() {
             return Err(Misuse::KeyLength);
         }
-        let (watch, mut changes) = raw(watching.as_ref());
-        let mut count = changes.len();
-        changes.push(core_calls::Change::default());
-        let key = new_key.unwrap_or_default();
-        misuse_of(core_calls::expect(kept.get(), &watch, &mut changes, &mut count, key, by))?;
+        let (watch, mut changes) = watching.raw();
+        changes.reserve(1);
+        Misuse::of(core_calls::expect(kept.get(), &watch, &mut changes, new_key.unwrap_or_default(), by))?;
         *watching = Watching::of(&watch, &changes);
         Ok(())
     }
@@ -557,7 +496,7 @@ impl Client {
     /// Returns the epochs that must show the watched name, and of which no reply was accepted.
     #[must_use]
     pub fn missing(&self) -> Vec<u64> {
-        self.missing_at().map(|(_, epoch)| epoch).collect()
+        self.missing_where(|_| true)
     }
 
     /// Returns the missing epochs of which the policy promises no proof any more, by the client's clock. Report that they can no
@@ -565,28 +504,27 @@ impl Client {
     #[must_use]
     pub fn lost(&self) -> Vec<u64> {
         let (present, kept) = (self.present(self.now()), self.memory.kept.get());
-        let missing = self.missing_at().filter(|&(at, _)| core_calls::is_lost(&present, &self.promise, kept, at));
-        missing.map(|(_, epoch)| epoch).collect()
+        self.missing_where(|place| core_calls::lost(&present, &self.promise, kept, place) == 1)
     }
 
-    /// Returns the missing epochs with their places.
-    fn missing_at(&self) -> impl Iterator<Item = (usize, u64)> + '_ {
+    /// Returns the missing epochs at some of the places.
+    fn missing_where(&self, is_wanted: impl Fn(usize) -> bool) -> Vec<u64> {
         let kept = self.memory.kept.get().iter().enumerate();
-        kept.filter(|(_, it)| seen_of(it.seen.into()) == Some(Watched::Missing)).map(|(at, it)| (at, epoch_of(it)))
+        let missing = kept.filter(|(_, it)| Watched::of(it.seen.into()) == Some(Watched::Missing));
+        missing.filter(|&(place, _)| is_wanted(place)).map(|(_, it)| epoch_of(it)).collect()
     }
 
     /// Returns the alarms of dropped epochs, until their owner takes note of them.
     #[must_use]
     pub fn alarms(&self) -> Vec<Alarm> {
-        let alarm = |it: &core_calls::Alarm| Some(Alarm { epoch: it.epoch, seen: seen_of(it.seen.into())? });
+        let alarm = |it: &core_calls::Alarm| Some(Alarm { epoch: it.epoch, seen: Watched::of(it.seen.into())? });
         self.memory.alarms.get().iter().filter_map(alarm).collect()
     }
 
     /// Takes note of the alarms up to an epoch, which the owner has seen: they are dropped.
     pub fn note(&mut self, epoch: u64) {
-        let (alarms, count) = self.memory.alarms.all();
         // There is always room for the alarms that there are.
-        let _status = core_calls::note(alarms, count, epoch);
+        let _status = core_calls::note(&mut self.memory.alarms, epoch);
     }
 
     /// Returns what to tell the owner of the watched name. Without [`Settings::trust`] it is never [`Report::Good`].
@@ -596,12 +534,10 @@ impl Client {
     /// [`Misuse::NotWatching`] if no name is watched.
     pub fn report(&self) -> Result<Report, Misuse> {
         let Memory { kept, watching, alarms, marks } = &self.memory;
-        let (present, (watch, _), mut found) =
-            (self.present(self.now()), raw(watching.as_ref()), core_calls::Report::default());
-        let (kept, alarms) = (kept.get(), alarms.get());
-        let quorum = self.quorum();
-        misuse_of(core_calls::report(&present, kept, &watch, &self.promise, alarms, marks, quorum, &mut found))?;
-        Ok(Report::of(&found))
+        let (present, (watch, _)) = (self.present(self.now()), watching.raw());
+        let (kept, alarms, quorum) = (kept.get(), alarms.get(), self.trust.quorum);
+        let (status, report) = core_calls::report(&present, kept, &watch, &self.promise, alarms, marks, quorum);
+        Misuse::of(status).map(|()| Report::of(&report))
     }
 
     /// Returns all that the client keeps, for [`Client::resume`]: 110 bytes, 218 for each epoch, 9 for each alarm, 8 for each auditor, and
@@ -609,38 +545,36 @@ impl Client {
     #[must_use]
     pub fn state(&self) -> Vec<u8> {
         let Memory { kept, watching, alarms, marks } = &self.memory;
-        let (watch, changes) = raw(watching.as_ref());
-        let (kept, alarms, trust) = (kept.get(), alarms.get(), self.trust_digest());
-        let parts = core_calls::Parts { kept, watch, changes: &changes, alarms, trust, marks };
-        // There are fewer than 2^32 epochs, changes, alarms and auditors, which memory could not hold.
-        core_calls::state(&self.digest, &parts).unwrap_or_default()
-    }
-
-    fn trust_digest(&self) -> [u8; 32] {
-        self.trust.map_or([0; 32], |it| it.digest)
+        let (watch, changes) = watching.raw();
+        let (kept, changes, alarms) = (Slice::of(kept.get()), Slice::of(changes.get()), Slice::of(alarms.get()));
+        let saved = core_calls::Saved { kept, watch, changes, alarms, trust: self.trust.digest, marks: Slice::of(marks) };
+        // There are fewer than 2^32 epochs, changes, alarms and auditors, which memory could not hold. So both calls succeed.
+        let (_, size) = core_calls::state_size(&self.digest, &saved);
+        let mut state = vec![0; size];
+        let _written = core_calls::state_write(&self.digest, &saved, &mut state);
+        state
     }
 
     fn take_state(&mut self, state: &[u8]) -> Result<(), Refusal> {
-        let mut needs = core_calls::StateNeeds::default();
-        refused(core_calls::state_needs(&self.digest, state, &mut needs))?;
+        let needs = good(core_calls::state_needs(&self.digest, state))?;
         let verdicts = verdicts::of_state(&self.keys, state, &needs);
-        let (digest, trust) = (self.digest, self.trust_digest());
-        self.memory.kept.reserve(needs.kept, NO_EPOCH);
-        self.memory.alarms.reserve(needs.alarms, core_calls::Alarm::default());
-        let changes = vec![core_calls::Change::default(); needs.changes];
-        let (status, watching) = self.memory.written((core_calls::Watch::default(), changes), 0, |it, marks| {
-            core_calls::state_read(&digest, state, &verdicts, &trust, it, marks)
-        });
-        refused(status)?;
-        self.memory.watching = watching;
+        let Memory { kept, watching, alarms, marks } = &mut self.memory;
+        let (mut watch, mut changes) = (RawWatch::default(), Array::default());
+        kept.reserve(needs.kept);
+        changes.reserve(needs.changes);
+        alarms.reserve(needs.alarms);
+        let (policy, trust) = (&self.digest, &self.trust.digest);
+        let status = core_calls::state_read(policy, state, &verdicts, trust, kept, &mut watch, &mut changes, alarms, marks);
+        good((status, ()))?;
+        *watching = Watching::of(&watch, &changes);
         Ok(())
     }
 }
 
-/// Returns the refusal of a status, if it is none of success.
-fn refused(status: u32) -> Result<(), Refusal> {
+/// Returns what a call of the core has written, or the refusal of its status.
+fn good<T>((status, written): (u32, T)) -> Result<T, Refusal> {
     if status == 0 {
-        return Ok(());
+        return Ok(written);
     }
     Err(Cause::of(status).into())
 }

@@ -44,6 +44,11 @@ impl EpochClock {
     pub(super) fn begins(self, epoch: u64) -> u128 {
         u128::from(self.start) + u128::from(epoch.saturating_sub(1)) * u128::from(self.period.get())
     }
+
+    /// Returns how many seconds ago an epoch began, below 0 if it has not begun.
+    pub(super) fn age(self, epoch: u64, now: u64) -> i128 {
+        i128::from(now).saturating_sub(self.begins(epoch).try_into().unwrap_or(i128::MAX))
+    }
 }
 
 /// What a directory promises for its life. `docs/FORMATS.md` defines its document.
@@ -136,6 +141,27 @@ impl Policy {
 
     pub(super) fn clock(&self) -> Option<EpochClock> {
         self.clock
+    }
+}
+
+/// A directory's policy, or its digest alone, which has no clock and no keys.
+#[derive(Clone, Debug, PartialEq, Eq)]
+pub enum PolicyOrDigest {
+    /// The policy of its document.
+    Policy(Policy),
+    /// The policy digest.
+    Digest([u8; 32]),
+}
+
+impl From<Policy> for PolicyOrDigest {
+    fn from(policy: Policy) -> Self {
+        Self::Policy(policy)
+    }
+}
+
+impl From<[u8; 32]> for PolicyOrDigest {
+    fn from(digest: [u8; 32]) -> Self {
+        Self::Digest(digest)
     }
 }
 

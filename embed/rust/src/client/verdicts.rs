@@ -3,7 +3,7 @@
 //! The core proves nothing about signatures: an entry or an index that is wrongly taken for valid here is accepted.
 
 use super::schemes::Keys;
-use crate::client_core::{HistoryNeeds, Needs, StateNeeds, Verdicts};
+use crate::client_core::{Needs, StateNeeds, Verdicts};
 use crate::{BODY_BYTES, ENTRY_BYTES};
 use std::vec::Vec;
 
@@ -27,12 +27,8 @@ pub(super) fn of_reply(keys: &Keys, name: &[u8], reply: &[u8], needs: &Needs) ->
     Verdicts { signature, ..of_index(keys, name, part(reply, needs.vrf_start, needs.vrf_length)) }
 }
 
-/// Returns the verdict on the VRF proof of a history.
-pub(super) fn of_history(keys: &Keys, name: &[u8], history: &[u8], needs: &HistoryNeeds) -> Verdicts {
-    of_index(keys, name, part(history, needs.vrf_start, needs.vrf_length))
-}
-
-fn of_index(keys: &Keys, name: &[u8], proof: &[u8]) -> Verdicts {
+/// Returns the verdict on the VRF proof of a name, with the index.
+pub(super) fn of_index(keys: &Keys, name: &[u8], proof: &[u8]) -> Verdicts {
     match keys.index(name, proof) {
         Some(at) => Verdicts { signature: 0, index: 1, at },
         None => Verdicts::default(),

@@ -1,7 +1,7 @@
-//! What a client returns of the watched name and of its auditors, and what its caller must not do.
+//! What a client returns of the watched name, and what it needs of its auditors.
 
-use crate::client_core::{self, Report as Raw};
-use core::fmt;
+use super::cause::Misuse;
+use crate::client_core as core_calls;
 
 /// What an epoch shows of the watched name.
 #[derive(Clone, Copy, Debug, PartialEq, Eq, Hash)]
@@ -16,72 +16,17 @@ pub enum Watched {
     Missing,
 }
 
-/// A call that the client's caller must not make. The client is unchanged.
-#[derive(Clone, Copy, Debug, PartialEq, Eq, Hash)]
-#[non_exhaustive]
-pub enum Misuse {
-    /// The name has no byte, or more than 255.
-    NameLength,
-    /// The expected key has no byte, or 2^32 or more.
-    KeyLength,
-    /// The client watches another name, another key, or from another epoch on.
-    OtherWatch,
-    /// The client watches no name.
-    NotWatching,
-    /// Another change of the key is not over.
-    ChangeOpen,
-    /// The new key is the one that is expected already.
-    SameKey,
-    /// The epoch by which the new key is expected is not after the latest one.
-    NotLater,
-    /// The trust document has no such auditor.
-    NoAuditor,
-    /// Three times the auditors that may be faulty are not fewer than all.
-    TooManyFaulty,
-}
-
-impl fmt::Display for Misuse {
-    fn fmt(&self, f: &mut fmt::Formatter<'_>) -> fmt::Result {
-        f.write_str(match self {
-            Self::NameLength => "a name has 1 to 255 bytes",
-            Self::KeyLength => "an expected key has at least one byte, and less than 2^32; None expects none",
-            Self::OtherWatch => "this client watches another name or key: use `expect`, or make another client",
-            Self::NotWatching => "no name is watched: call `watch` first",
-            Self::ChangeOpen => "another change is expected: expect the next one after it is over",
-            Self::SameKey => "the new key is the one that is expected already",
-            Self::NotLater => "this epoch is in the chain: expect the new key by a later one",
-            Self::NoAuditor => "the trust document has no such auditor",
-            Self::TooManyFaulty => "more than three auditors are needed for each one that may be faulty",
-        })
+impl Watched {
+    /// Returns what was seen at an epoch by its number in a state, None if it is not watched.
+    pub(super) fn of(number: u32) -> Option<Self> {
+        match number {
+            1 => Some(Self::Same),
+            3 => Some(Self::Changed),
+            4 => Some(Self::Absent),
+            5 => Some(Self::Missing),
+            _ => None,
+        }
     }
-}
-
-impl core::error::Error for Misuse {}
-
-/// Returns what was seen at an epoch by its number in a state, None if it is not watched.
-pub(super) fn seen_of(number: u32) -> Option<Watched> {
-    match number {
-        1 => Some(Watched::Same),
-        3 => Some(Watched::Changed),
-        4 => Some(Watched::Absent),
-        5 => Some(Watched::Missing),
-        _ => None,
-    }
-}
-
-/// The statuses of the core for a call that the caller must not make.
-pub(super) fn misuse_of(status: u32) -> Result<(), Misuse> {
-    Err(match status {
-        0 => return Ok(()),
-        130 => Misuse::NameLength,
-        131 => Misuse::KeyLength,
-        132 => Misuse::OtherWatch,
-        133 => Misuse::NotWatching,
-        134 => Misuse::ChangeOpen,
-        135 => Misuse::SameKey,
-        136 => Misuse::NotLater,
-        _ => Misuse::NoAuditor,
-    })
 }
 
 /// What a client needs of a trust document: which auditors confirm epochs.
@@ -93,6 +38,9 @@ pub struct Trust {
 }
 
 impl Trust {
+    /// No auditor, and no quorum.
+    pub(super) const NONE: Self = Self { digest: [0; 32], auditors: 0, quorum: 0 };
+
     /// Returns the trust in a document with this SHA-256, which names this number of auditors, of which at most `faulty` lie or are silent.
     ///
     /// # Errors
@@ -100,7 +48,7 @@ impl Trust {
     /// [`Misuse::TooManyFaulty`] if three times `faulty` are not fewer than the auditors.
     pub fn new(digest: [u8; 32], auditors: u32, faulty: u32) -> Result<Self, Misuse> {
         let (auditors, faulty) = (auditors as usize, faulty as usize);
-        match client_core::quorum(auditors, faulty) {
+        match core_calls::quorum(auditors, faulty) {
             0 => Err(Misuse::TooManyFaulty),
             quorum => Ok(Self { digest, auditors, quorum }),
         }
@@ -135,7 +83,7 @@ pub enum Report {
 }
 
 impl Report {
-    pub(super) fn of(raw: &Raw) -> Self {
+    pub(super) fn of(raw: &core_calls::Report) -> Self {
         match raw.verdict {
             1 => Self::Changed(raw.from),
             2 => Self::Missing(raw.from),
