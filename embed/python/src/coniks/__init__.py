@@ -18,8 +18,8 @@ Nonces, roots, indices, links and digests are 32 bytes, entries 209. A name is t
 their states are, and two monitors if their names, indices and expected keys are too. They have no hash.
 
 The library is loaded at the first call, which raises ImportError if there is none, if it can't be loaded, or if it has another
-version than this package. `Policy` and the modules `coniks.provider`, which runs a directory, and `coniks.guard`, which signs for
-it, do not need the library.
+version than this package. `Policy` and the module `coniks.provider`, which runs a directory, do not need the library. A guard of
+`coniks.guard`, which signs for it, does: opening one raises the same ImportError.
 """
 
 from __future__ import annotations
@@ -452,6 +452,13 @@ def _digest(value: Any, what: str) -> bytes:
     return bytes.fromhex(value)
 
 
+def _digests(listed: list[Any]) -> bytes:
+    """The bytes of siblings: of all at once if they are as they should be."""
+    if all(type(it) is str and len(it) == 64 for it in listed) and re.fullmatch("[0-9a-fA-F]*", digits := "".join(listed)):
+        return bytes.fromhex(digits)
+    return b"".join([_digest(it, "a sibling") for it in listed])
+
+
 def _base64(value: str, what: str) -> bytes:
     try:
         decoded = base64.b64decode(value, validate=True)
@@ -470,13 +477,13 @@ def proof_bytes(proof: Mapping[str, Any]) -> bytes:
     """The bytes of a proof that `keydir run` printed as an object. Raises ValueError for what `keydir check` refuses as the
     member `proof`, and for one that has no room in bytes."""
     end, listed = _member(proof, "end", Mapping), _member(proof, "siblings", list)
-    siblings = [_digest(it, "a sibling") for it in listed]
+    siblings = _digests(listed)
     kinds = ["empty", "other", "here"]
     kind = _member(end, "kind", str)
     if kind not in kinds:
         raise ValueError(f"an end is one of {', '.join(kinds)}, not {kind}")
-    count = _number(len(siblings), 16, "the number of siblings").to_bytes(2, "big")
-    front = bytes([kinds.index(kind)]) + count + b"".join(siblings)
+    count = _number(len(listed), 16, "the number of siblings").to_bytes(2, "big")
+    front = bytes([kinds.index(kind)]) + count + siblings
     if kind == "empty":
         return front
     if kind == "other":

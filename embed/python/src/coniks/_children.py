@@ -118,14 +118,15 @@ class Child:
         end = self._held.find(b"\n", self._at)
         if end < 0:
             until = time.monotonic() + (self._timeout or 0) * times
+            parts = [self._held[self._at :]]
             while end < 0:
                 self._wait(self._can_read, until)
-                more = os.read(self._out, 65536)
-                if not more:
+                parts.append(os.read(self._out, 65536))
+                if not parts[-1]:
                     raise self._ended()
-                held = self._held[self._at :]
-                self._held, self._at = held + more, 0
-                end = self._held.find(b"\n", len(held))
+                end = parts[-1].find(b"\n")
+            end += sum(map(len, parts[:-1]))
+            self._held, self._at = b"".join(parts), 0
         line = self._held[self._at : end]
         self._at = end + 1
         return line

@@ -9,9 +9,9 @@ from pathlib import Path
 from typing import Any
 
 from ._files import lock, opened_at, rewrite
-from ._http import Unusable
+from ._telling import Unusable, Verdict
 
-_NAME, _VERSION = "coniks-client", "2"
+_NAME, _VERSION = "coniks-client", "3"
 
 
 class StateFile:
@@ -27,18 +27,18 @@ class StateFile:
             lock(self._lock.fileno())
         except BlockingIOError:
             self.close()
-            raise Unusable(f"another run has {path}: wait for it") from None
+            raise Unusable(Verdict.STATE_TAKEN, path=path) from None
 
     def read(self) -> dict[str, Any]:
         """The members that are stored. Raises `Unusable` if there is no file, one that was cut or changed, or one of another version."""
         if not self.path.exists():
-            raise Unusable(f"{self.path} isn't there: coniks-client begin makes it")
+            raise Unusable(Verdict.STATE_LACKING, path=self.path)
         front, _, text = self.path.read_bytes().partition(b"\n")
         words = front.decode("latin-1").split(" ")
         if len(words) != 3 or words[0] != _NAME or words[2] != hashlib.sha256(text).hexdigest():
-            raise Unusable(f"{self.path} is no state of coniks-client, or was cut or changed: restore it, or begin anew")
+            raise Unusable(Verdict.STATE_NONE, path=self.path)
         if words[1] != _VERSION:
-            raise Unusable(f"{self.path} is a state of another version of coniks-client: use that version, or begin anew")
+            raise Unusable(Verdict.STATE_VERSION, path=self.path)
         members: dict[str, Any] = json.loads(text)
         return members
 

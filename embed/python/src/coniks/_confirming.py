@@ -1,18 +1,22 @@
-"""Up to which epoch a quorum of a user's auditors confirms the chain."""
+"""Which heads of a user's auditors are recent and of the chain. A client of the library confirms epochs by them.
+
+Decided here is only what the core of that client does not know: whether a cosignature is valid and recent.
+"""
 
 from __future__ import annotations
 
+import math
 import time
 from contextlib import suppress
 from dataclasses import dataclass, field
-from typing import Any, Mapping, Optional
+from typing import Any, Collection, Mapping
 
 from . import Body, Head
-from ._http import Unusable, fetched, is_signed_again, new_entries
+from ._http import fetched, has_other_signature, is_signed_again, new_entries
 from ._person import Alarm, Person
-from ._telling import UNVERIFIED
-from .client import Cause, Comparison, Refusal
-from .notes import SKEW, Auditor, BadNote, Note, quorum, read_note
+from ._telling import WELL, Told, Unusable, Verdict
+from .client import Cause, Client, Comparison, Refusal
+from .notes import SKEW, Auditor, BadNote, Note, read_note
 
 # The least seconds for which a head counts, and the most bytes of a note.
 _RECENT, _NOTE = 600, 1 << 16
@@ -20,16 +24,34 @@ _RECENT, _NOTE = 600, 1 << 16
 
 @dataclass(frozen=True)
 class Agreement:
-    """The latest epoch that a quorum confirms, None if there is none, and what is told of it. `is_enough` says whether the user may
-    rely on it, or has chosen to do without auditors. `earliest` is the earliest head of the auditors."""
+    """Whether a quorum of the auditors has confirmed the chain lately, with the values of that sentence: `CONFIRMED` or `FEW`, and without
+    auditors `ALONE` or `NOBODY`. `heads` has the recent heads that are of the chain, by the places of the auditors."""
 
-    epoch: Optional[int]
-    is_enough: bool
-    text: str
-    members: Mapping[str, Any] = field(default_factory=dict)
-    # What each sentence about a key says besides its epoch.
-    beside: str = ""
-    earliest: Optional[Head] = None
+    verdict: Verdict
+    values: Mapping[str, Any] = field(default_factory=dict)
+    heads: Mapping[int, Head] = field(default_factory=dict)
+
+    @property
+    def is_enough(self) -> bool:
+        """Whether the user may rely on what is confirmed, or has chosen to do without auditors."""
+        return self.verdict.status == WELL
+
+
+def settle(client: Client, heads: Mapping[int, Head], is_enough: bool, others: Collection[Client] = ()) -> None:
+    """Marks the recent heads of auditors in a client, and drops the epochs before the confirmed one if the heads are enough. What an
+    auditor is behind stays, since its head would be unknown then, and what other clients lack."""
+    reached = [it.epoch if it else 0 for it in [*heads.values(), *(other.head() for other in others)]]
+    last = min(reached) if is_enough and reached else 0
+    drop(client, last)
+    for place, head in heads.items():
+        client.mark(place, head)
+    drop(client, last)
+
+
+def drop(client: Client, last: int) -> None:
+    """Drops the epochs before the confirmed one, unless that is after an epoch."""
+    if (client.confirmed or 0) <= last:
+        client.drop()
 
 
 class Confirming:
@@ -38,82 +60,76 @@ class Confirming:
     def __init__(self, person: Person):
         self._person = person
 
-    def agreed(self) -> Agreement:
-        """Asks for the heads of the auditors: the service, which carries their notes, or else each of them. Tells alarms."""
-        it, count = self._person, len(self._person.auditors)
-        if not count:
-            text = "no auditor is named, so nobody notices if others are shown another chain"
-            return Agreement(None, bool(it.state.get("alone")), text, beside=", which no auditor confirms")
-        least = quorum(count, it.state["faulty"])
-        heads = self._carried(least)
-        if not heads:
-            for url, auditor in it.auditors.items():
-                it.tried(lambda: heads.update({url: self._head(auditor, read_note(fetched(f"{url}/v1/note", _NOTE)), url)}), 0)
+    def agreed(self, others: Collection[Client]) -> Agreement:
+        """Asks for the heads of the auditors: the service, which carries their notes, or else each of them. Marks them in the chain, which
+        drops nothing that other clients lack. Tells alarms."""
+        it, trust = self._person, self._person.trust
+        if not trust:
+            return Agreement(Verdict.ALONE if it.state["alone"] else Verdict.NOBODY)
+        found, count, needed = self._carried() or self._asked(), len(trust.auditors), trust.needed
         # If the latest entry was signed again meanwhile, heads of its first signature confirm nothing.
-        heads = {url: head for url, head in heads.items() if it.chain.compare(head) is Comparison.EQUAL}
-        if len(heads) < least:
-            text = f"{len(heads)} of your {count} auditors confirm this chain, and {least} must: rely on nothing new"
-            members = {"agreeing": len(heads), "needed": least}
-            return Agreement(None, False, text, members, ", which too few of your auditors confirm")
-        ordered = sorted(heads.values(), key=lambda it: it.epoch)
-        epoch = ordered[-least].epoch
-        confirming = sum(it.epoch >= epoch for it in ordered)
-        text = f"{confirming} of your {count} auditors confirm this chain up to epoch {epoch}"
-        return Agreement(epoch, True, text, {"agreed": epoch}, earliest=ordered[0])
+        heads = {trust.place(auditor): head for auditor, head in found.items() if it.chain.compare(head) is Comparison.EQUAL}
+        is_enough = len(heads) >= needed
+        settle(it.chain, heads, is_enough, others)
+        agreed = it.chain.confirmed or 0
+        # A quorum has the marks, also if the heads of now are earlier ones.
+        confirming = max(needed, sum(head.epoch >= agreed for head in heads.values()))
+        values = {"agreeing": len(heads), "confirming": confirming, "count": count, "needed": needed, "agreed": agreed}
+        return Agreement(Verdict.CONFIRMED if is_enough else Verdict.FEW, values, heads)
 
-    def tell(self, agreement: Agreement) -> None:
-        """Tells what the auditors confirm."""
-        self._person.tell(agreement.text, 0 if agreement.is_enough else UNVERIFIED, **agreement.members)
+    def _asked(self) -> dict[Auditor, Head]:
+        """The heads of which each auditor has cosigned one itself."""
+        heads = dict[Auditor, Head]()
+        for url, auditor in self._person.auditors.items():
+            self._person.tried(lambda: heads.update({auditor: self._head(auditor, self._note(url), url)}), is_beside=True)
+        return heads
 
-    def _carried(self, least: int) -> dict[str, Head]:
+    def _note(self, url: str) -> Note:
+        return read_note(fetched(f"{url}/v1/note", _NOTE))
+
+    def _carried(self) -> dict[Auditor, Head]:
         """The heads in the note that the service carries, none if a quorum of them doesn't confirm the latest epoch or the one before:
         a service that forks can carry an old note."""
-        it, heads, note = self._person, dict[str, Head](), b""
+        it, heads, note = self._person, dict[Auditor, Head](), b""
         with suppress(Unusable):
             note = it.got("/v1/note", _NOTE)
-        for url, auditor in it.auditors.items():
-            with suppress(BadNote):
-                heads[url] = self._head(auditor, read_note(note))
+        for auditor in it.auditors.values():
+            with suppress(BadNote, Unusable):
+                heads[auditor] = self._head(auditor, read_note(note))
         latest = [Body.of_entry(entry).epoch for entry in it.chain.entries[-2:]]
-        recent = {url: head for url, head in heads.items() if head.epoch in latest}
-        return recent if len(recent) >= least else {}
+        recent = {auditor: head for auditor, head in heads.items() if head.epoch in latest}
+        return recent if it.trust and len(recent) >= it.trust.needed else {}
 
     def _head(self, auditor: Auditor, note: Note, url: str = "") -> Head:
         """The head of a note, which this auditor has cosigned lately, and which this chain has. Its epoch ended lately too: an auditor
         that is shown no later ones confirms none. With a URL what differs is looked for among the auditor's entries. Raises `BadNote`,
-        `Alarm` and `Refusal`."""
+        `Unusable`, `Alarm` and `Refusal`."""
         person, now = self._person, time.time()
         head, start, period = note.head(person.policy), person.policy.epoch_start, person.policy.epoch_period
         since = now - max(3 * (period or 0), _RECENT)
-        self._check_time(auditor, note, since, now + SKEW)
+        check_time(auditor, note, since, now + SKEW)
         if url and person.chain.compare(head) is not Comparison.EQUAL:
             person.follow()
-        found = person.chain.compare(head)
-        if url and found is not Comparison.EQUAL:
+        if url and person.chain.compare(head) is not Comparison.EQUAL:
             with suppress(Unusable):
                 self._search(url)
-            found = person.chain.compare(head)
+        found = person.chain.compare(head)
         if url and found is Comparison.DIFFERS:
-            text = f"{auditor.name} has cosigned another chain, at epoch {head.epoch}: it lies, or others are shown another chain"
-            raise Alarm(text, "head", bytes(note.of(auditor)))
-        if start is not None and period is not None and start + head.epoch * period < since:
-            raise BadNote(f"{auditor.name} has cosigned no later epoch than {head.epoch}, which is old")
-        if found is not Comparison.EQUAL:
-            raise BadNote(f"{auditor.name} has cosigned epoch {head.epoch}, which the service doesn't show")
+            raise self._differing(auditor, note, head, url)
+        is_old = start is not None and period is not None and start + head.epoch * period < since
+        is_dropped = any(Body.of_entry(it).epoch > head.epoch for it in person.chain.entries[:1])
+        if is_old or found is not Comparison.EQUAL:
+            verdict = Verdict.HEAD_OLD if is_old or is_dropped else Verdict.HEAD_HIDDEN
+            raise Unusable(verdict, auditor=auditor.name, epoch=head.epoch)
         return head
 
-    def _check_time(self, auditor: Auditor, note: Note, since: float, until: float) -> None:
-        """Checks that an auditor cosigned a note between two times."""
-        seconds = note.times([auditor], until).get(auditor.name)
-        if seconds is not None and seconds >= since:
-            return
-        if seconds is None and note.times([auditor]):
-            raise BadNote(
-                f"{auditor.name} has cosigned for a time that is to come, which does not count: its clock is wrong, or yours"
-            )
-        if seconds is None and any(line.split(" ")[1] == auditor.name for line in note.lines):
-            raise BadNote(f"{auditor.name} signs with another key than the one that you named: ask it for its key")
-        raise BadNote(f"{auditor.name} has cosigned no head lately")
+    def _differing(self, auditor: Auditor, note: Note, head: Head, url: str) -> Told:
+        """What a head of another chain is, for which no entry convicts the directory."""
+        values = {"auditor": auditor.name, "epoch": head.epoch}
+        with suppress(Unusable):
+            if has_other_signature(self._person.chain, url, head):
+                return Unusable(Verdict.HEAD_TWICE, **values)
+        return Alarm(Verdict.HEAD_DIFFERS, "head", bytes(note.of(auditor)), **values)
 
     def _search(self, url: str) -> None:
         """Looks for an entry that convicts the directory among all that an auditor has, and takes its latest one if that was signed
@@ -124,3 +140,16 @@ class Confirming:
                 raise Refusal(Cause.EQUIVOCATION, None, evidence)
             if is_signed_again(entry, chain.entries[-1]):
                 chain.feed([entry])
+
+
+def check_time(auditor: Auditor, note: Note, since: float, until: float) -> None:
+    """Checks that an auditor cosigned a note between two times. Raises `Unusable`."""
+    seconds, any_seconds = (note.times([auditor], it).get(auditor.name) for it in (until, math.inf))
+    if seconds is not None and seconds >= since:
+        return
+    verdict = Verdict.HEAD_NONE
+    if seconds is None and any_seconds is not None:
+        verdict = Verdict.HEAD_AHEAD
+    elif seconds is None and any(line.split(" ")[1] == auditor.name for line in note.lines):
+        verdict = Verdict.HEAD_OF_OTHER_KEY
+    raise Unusable(verdict, auditor=auditor.name)

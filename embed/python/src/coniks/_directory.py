@@ -5,12 +5,12 @@ from __future__ import annotations
 import os
 import time
 import weakref
-from typing import Callable, Iterable, Iterator, Optional, TypeVar, Union
+from typing import Callable, Iterable, Iterator, Optional, Sequence, TypeVar, Union
 
-from . import Head, _number, _replies
+from . import Head, _replies
 from ._engine import Engine, Record
 from ._host import Evidence, Host
-from ._lines import Index, Latest, Lookup, grouped, lookup_line, lookup_of, sized, text
+from ._lines import Latest, Lookup, grouped, lookup_line, lookup_of, sized, text, whole
 from ._threads import Worker
 from .faults import (
     ChildrenDiffer,
@@ -46,9 +46,10 @@ class Directory(Closing):
     """What `Provider` and `coniks.replica.Replica` share: children that answer lookups, and a thread that changes the
     directory."""
 
-    def __init__(self, host: Host, index: Index, log: Log, check_indices: bool, policy: Union[bytes, Policy]):
-        self._host, self._index, self._log, self._is_checking, self._policy = host, index, log, check_indices, policy
-        self._clock = clock_of(policy)
+    def __init__(self, host: Host, log: Log):
+        settings = host.settings
+        self._host, self._log, self._index, self._is_checking = host, log, settings.index, settings.check_indices
+        self._policy, self._clock = settings.policy, clock_of(settings.policy)
         # A closed directory begins no other call. What is under way then ends before the directory is over, or fails.
         self._is_closed = self._is_over = False
         self._work, self._owner = Worker(), os.getpid()
@@ -194,6 +195,11 @@ class Directory(Closing):
         """The reply for a client that looks a name up: entry, VRF proof and proof. Without a VRF its proof has no byte."""
         return _replies.reply(self.lookup(name, epoch), vrf_proof)
 
+    def replies(self, names: Sequence[tuple[str, bytes]], epoch: Optional[int] = None) -> list[Union[bytes, ProviderError]]:
+        """The replies for many names with their VRF proofs, at one epoch, as `reply` and `lookups` make them."""
+        found = self.lookups([name for name, _ in names], epoch)
+        return [it if isinstance(it, ProviderError) else _replies.reply(it, proof) for it, (_, proof) in zip(found, names)]
+
     def catch_up(self, epoch: int) -> bytes:
         """The entries after an epoch, for a client or an auditor that has those up to it. After 0 it is the whole chain."""
         return _replies.catch_up(self.chain(), epoch)
@@ -216,7 +222,7 @@ class Directory(Closing):
     def _at(self, epoch: Optional[int]) -> int:
         """An epoch, the latest if none is given. The child may have one more, which the log has not."""
         latest = self._host.known.latest.epoch
-        if epoch is not None and _number(epoch, 64, "the epoch") > latest:
+        if epoch is not None and whole(epoch) > latest:
             raise UnknownEpoch()
         return latest if epoch is None else epoch
 
@@ -283,18 +289,6 @@ def check_writable(log: Log) -> None:
         log.check_writable()
 
 
-def digest_of(policy: Union[bytes, Policy]) -> bytes:
-    """The policy digest of each entry."""
-    return policy.digest if isinstance(policy, Policy) else sized(policy, 32, "the policy")
-
-
 def clock_of(policy: Union[bytes, Policy]) -> Optional[Policy]:
     """The policy if it has a clock."""
     return policy if isinstance(policy, Policy) and policy.epoch_period is not None else None
-
-
-def counted(children: int) -> int:
-    """How many children a directory has."""
-    if type(children) is not int or children not in (1, 2):
-        raise ValueError(f"a directory has 1 or 2 children, not {children!r}")
-    return children

@@ -3,26 +3,42 @@
 from __future__ import annotations
 
 import math
+import os
 import random
 import secrets
 from dataclasses import dataclass
 from hashlib import sha256
 from itertools import islice
-from typing import Any, Callable, Iterable, Iterator, Mapping, NamedTuple, Optional, Sequence, Tuple
+from typing import Any, Callable, Iterator, Mapping, NamedTuple, Optional, Sequence, Tuple, Union
 
-from . import BODY_LENGTH, ENTRY_LENGTH, Head
+from . import BODY_LENGTH, ENTRY_LENGTH, Head, _number
 from ._children import Children
-from ._files import cause
+from ._files import Path, cause
 from ._lines import SIGNATURE_LENGTH, Epoch, Index, Latest, Pending, digits, encoded, install_line, lookup_line
-from ._lines import latest_of, members_of, number, with_member
+from ._lines import has_digits, latest_of, members_of, number, sized, with_first
 from ._restoring import Restoring, link_of
 from ._snapshot_lines import OPENING, Point, lines_of, refused, snapshot_in
-from .faults import ChildrenDiffer, Fault, LogBehind, LogFailed, LogForked, OtherIndex, ProgramFailed, ProviderError, ReplayDiffers
+from .faults import (
+    ChildrenDiffer,
+    Fault,
+    LogBehind,
+    LogFailed,
+    LogForked,
+    NotAbandoned,
+    OtherIndex,
+    ProgramFailed,
+    ProviderError,
+    ReplayDiffers,
+)
 from .faults import LinesDropped, NoDirectory, SnapshotDiffers, UnknownEpoch
 from .log import Log
+from .policy import Policy
 
 # In a log of this format a `prepare` line that follows another one without `install` abandons that update by name.
 _FORMAT = 2
+_WITHDRAW = b'{"cmd":"withdraw"}'
+# The kinds of lines that a log has.
+_COMMANDS = ("open", "prepare", "install")
 
 
 Place = Tuple[str, str]
@@ -61,22 +77,70 @@ class Sample:
         return self._ends + self._kept
 
 
+def asked_of(line: bytes) -> tuple[object, ...]:
+    """What a `prepare` line asks for."""
+    said = members_of(line, LogFailed, "a `prepare` line")
+    operations = [(it["op"], it["name"], it["index"].lower(), it["key"], it["opening"].lower()) for it in said["ops"]]
+    return said["epoch"], (said.get("nonce") or "").lower(), operations
+
+
 def place_of(operation: Mapping[str, Any]) -> Place:
     return operation["name"], operation["index"]
 
 
 @dataclass(frozen=True)
-class Setting:
-    """What the children of a directory are started with."""
+class Settings:
+    """What a `Provider` or a `Replica` is started with beside its log.
 
-    words: Sequence[str]
-    timeout: Optional[float]
-    log: Log
-    policy: bytes
+    `program` is the program's path, or its path and first arguments. `index(name)` returns the index of a name. `policy` is the digest in
+    each entry, 32 bytes, or the `Policy` whose digest it is, and `nonce` that of the first epoch: 32 random bytes if it is None.
+    `vrf_public_key` is the public key of the VRF, whose SHA-256 the log keeps. These are in the log from the first start on; later
+    starts raise `LogFailed` if one is given that isn't the log's.
+
+    `verify(body, signature)` returns whether a signature is valid, and is called before one is installed, and for the entry of a
+    snapshot: the program verifies none. `workers` and `depth` are the program's options. `timeout` is how many seconds the
+    program may take for one answer; without it there is no limit. A snapshot may take it for each 4,096 names.
+
+    `children` is how many children there are, 1 or 2. Two take each line one after another, and lookups go to the one that isn't
+    taking it, so that they don't wait while a batch is built. Two take twice the memory, and a commit twice the program's time. If
+    one ends, the other one goes on, and others are started beside it. If two answers to a line differ, `ChildrenDiffer` is raised.
+
+    With `check_indices` a start asks for the indices of some names again, and another one raises `OtherIndex`.
+    """
+
+    program: Union[Path, Sequence[str]]
+    index: Index
+    policy: Union[bytes, Policy]
     nonce: Optional[bytes] = None
     vrf_public_key: Optional[bytes] = None
     verify: Optional[Callable[[bytes, bytes], bool]] = None
+    workers: Optional[int] = None
+    depth: Optional[int] = None
+    timeout: Optional[float] = None
     children: int = 1
+    check_indices: bool = True
+
+    def __post_init__(self) -> None:
+        # A policy or an option that can't be one raises an error here, and not at the start.
+        self.digest, self.words
+        if self.nonce is not None:
+            sized(self.nonce, 32, "the nonce")
+        if type(self.children) is not int or self.children not in (1, 2):
+            raise ValueError(f"a directory has 1 or 2 children, not {self.children!r}")
+
+    @property
+    def digest(self) -> bytes:
+        """The policy digest of each entry."""
+        return self.policy.digest if isinstance(self.policy, Policy) else sized(self.policy, 32, "the policy")
+
+    @property
+    def words(self) -> list[str]:
+        """The program with its arguments."""
+        program = self.program
+        words = [os.fspath(program)] if isinstance(program, (str, os.PathLike)) else list(program)
+        for option, value in [("--workers", self.workers), ("--depth", self.depth)]:
+            words += [] if value is None else [option, str(_number(value, 64, option))]
+        return words
 
 
 class Update(NamedTuple):
@@ -90,8 +154,8 @@ class Update(NamedTuple):
     operations: Sequence[Any] = ()
 
     def is_of(self, line: bytes) -> bool:
-        """Whether a line without `body` and `abandons` asks for this update."""
-        return self.line.startswith(with_member(line, "body", self.pending.body)[:-1])
+        """Whether a `prepare` line asks for this update: for its epoch, its nonce and its operations, however they are written."""
+        return asked_of(line) == asked_of(self.line)
 
 
 class Record(NamedTuple):
@@ -107,9 +171,9 @@ class Engine:
     and the pending update. The children answer for these also if they have installed an epoch that the log doesn't have,
     `unlogged`, since each lookup names its epoch."""
 
-    def __init__(self, setting: Setting):
+    def __init__(self, settings: Settings, log: Log):
         """Starts the children. `replay` replays the log."""
-        self._setting, self.log, self.verify = setting, setting.log, setting.verify
+        self._settings, self.log, self.verify = settings, log, settings.verify
         # The position of the snapshot that the replay begins with, 0 if there is none, and whether it is that of the log's directory,
         # as far as the log has the line before it.
         self.begin, self._is_compared = 0, True
@@ -124,9 +188,7 @@ class Engine:
         # The bodies of logged updates that others replaced, and a sample of the logged operations.
         self.replaced: list[bytes] = []
         self._sample = Sample()
-        # Whether the log says of each update that is replaced that it was abandoned. Logs of the first format don't.
-        self._is_strict = False
-        self.children = Children(setting.words, setting.children, setting.timeout)
+        self.children = Children(settings.words, settings.children, settings.timeout)
 
     def ask(self, line: bytes, times: int = 1) -> Mapping[str, Any]:
         """What each child answers to a line. It may take the timeout so many times."""
@@ -136,12 +198,12 @@ class Engine:
         """Opens a directory, in a log without a line."""
         members = {
             "cmd": "open",
-            "nonce": (self._setting.nonce or secrets.token_bytes(32)).hex(),
-            "policy": self._setting.policy.hex(),
+            "nonce": (self._settings.nonce or secrets.token_bytes(32)).hex(),
+            "policy": self._settings.digest.hex(),
             "log": _FORMAT,
         }
-        if self._setting.vrf_public_key is not None:
-            members["vrf"] = sha256(self._setting.vrf_public_key).hexdigest()
+        if self._settings.vrf_public_key is not None:
+            members["vrf"] = sha256(self._settings.vrf_public_key).hexdigest()
         line = encoded(members)
         self.ask(line)
         self.append(line)
@@ -170,7 +232,7 @@ class Engine:
         except (LinesDropped, NoDirectory):
             self._is_compared = False
             return
-        if members_of(line, LogFailed, f"line {self.begin - 1} of the log").get("link") != self.latest.link.hex():
+        if not has_digits(members_of(line, LogFailed, f"line {self.begin - 1} of the log"), "link", self.latest.link):
             raise refused(self.log, "has another entry than the line before it")
 
     def check_origin(self, record: Record, head: Optional[Head]) -> None:
@@ -190,53 +252,48 @@ class Engine:
             raise LogFailed(f"{self.log} lost lines: compare it with a backup, and restart")
 
     def take(self, line: bytes) -> None:
-        """Replays the next line of the log, and compares the answer: of `prepare` the body, and of `install` the link."""
+        """Replays the next line of the log. The program compares its body, its link and what it abandons."""
         what = f"line {self.position} of the log"
         said = members_of(line, LogFailed, what)
-        self._check_abandons(said, what)
-        try:
-            told = self.ask(line)
-        except Fault as fault:
-            raise ReplayDiffers(f"{what} is refused: {fault}. Look whether log and program are this directory's") from fault
         command = said.get("cmd")
+        if command not in _COMMANDS:
+            # The program has others, and one of them drops an update.
+            raise LogFailed(f"{what} is none of a provider: look what wrote it, and restore the log without it")
         if command == "open":
             self.compare_opening(said)
-        elif command == "prepare":
-            if told.get("body") != said.get("body"):
-                raise ReplayDiffers(f"{what} has another body: look whether log and program are this directory's")
+        try:
+            told = self.ask(line)
+        except NotAbandoned as fault:
+            raise LogFailed(f"{what} is refused: {fault}. Look what wrote it, and restore the log without it") from fault
+        except Fault as fault:
+            raise ReplayDiffers(f"{what} is refused: {fault}. Look whether log and program are this directory's") from fault
+        if command == "prepare":
+            self._check_named(said, "body", what)
             operations = said.get("ops", [])
             names = sum(it.get("op") == "register" for it in operations)
             pending = self._pending(number(said, "epoch", LogFailed), told)
             self._prepared(Update(pending, line, names, number(told, "nodes"), operations))
         elif command == "install":
-            if told.get("link") != said.get("link"):
-                raise ReplayDiffers(f"{what} has another link: look whether log and program are this directory's")
+            self._check_named(said, "link", what)
             epoch = self._installed(digits(said, "signature", SIGNATURE_LENGTH, LogFailed), told)
             self._settle(epoch, self.position + 1)
-        else:
-            raise LogFailed(f"{what} is none of a provider: look what wrote it, and restore the log without it")
         self.position += 1
 
-    def _check_abandons(self, said: Mapping[str, Any], what: str) -> None:
-        """Checks that a `prepare` line abandons the pending update, and no other one, before the child replaces it."""
-        if not self._is_strict or said.get("cmd") != "prepare":
-            return
-        pending = self.update.pending.body.hex() if self.update else None
-        if said.get("abandons") != pending:
-            wrong = "replaces a pending update that it doesn't abandon" if pending else "abandons an update that isn't pending"
-            raise LogFailed(f"{what} {wrong}: look what wrote it, and restore the log without it")
+    def _check_named(self, said: Mapping[str, Any], member: str, what: str) -> None:
+        """Checks that a line has the member that the program compares with its own: it takes a line without it too."""
+        if member not in said:
+            raise ReplayDiffers(f"{what} has no {member}: look whether log and program are this directory's")
 
     def compare_opening(self, said: Mapping[str, Any]) -> None:
         """Compares what an `open` line says with what the child was started with."""
         version = said.get("log")
         if version is not None and (type(version) is not int or version != _FORMAT):
             raise LogFailed("the log has a format that this version doesn't read: use the version that wrote it, or a later one")
-        self._is_strict = version is not None
-        key = self._setting.vrf_public_key
+        key = self._settings.vrf_public_key
         digest = None if key is None or "vrf" not in said else sha256(key).digest()
         for what, member, given in [
-            ("policy", "policy", self._setting.policy),
-            ("nonce", "nonce", self._setting.nonce),
+            ("policy", "policy", self._settings.digest),
+            ("nonce", "nonce", self._settings.nonce),
             ("public key of the VRF", "vrf", digest),
         ]:
             if given is not None and digits(said, member, 32, LogFailed) != given:
@@ -282,7 +339,7 @@ class Engine:
         """The update that the child has prepared. Its body is one of this epoch, after the latest one."""
         body, root = digits(told, "body", BODY_LENGTH), digits(told, "root", 32)
         numbers = epoch.to_bytes(8, "big") + self.latest.epoch.to_bytes(8, "big")
-        if body[1:81] != numbers + root + self.latest.link or body[113:] != self._setting.policy:
+        if body[1:81] != numbers + root + self.latest.link or body[113:] != self._settings.digest:
             self.children.distrust()
             raise ProgramFailed(
                 f"the body of epoch {epoch} doesn't follow the entry of epoch {self.latest.epoch}: look which program it is"
@@ -297,12 +354,26 @@ class Engine:
     def prepare(self, epoch: int, line: bytes, names: int) -> Update:
         """Has the child prepare an update, which isn't in the log yet. Its line abandons the pending one, if there is one: the
         caller knows that the signer has abandoned that."""
-        told = self.ask(line)
-        pending = self._pending(epoch, told)
-        whole = with_member(line, "body", pending.body)
         if self.update:
-            whole = with_member(whole, "abandons", self.update.pending.body)
-        return Update(pending, whole, names, number(told, "nodes"))
+            line = with_first(line, "abandons", self.update.pending.body)
+        told = self.ask(line)
+        try:
+            pending = self._pending(epoch, told)
+            stored = self._to_store(told, line, "body", pending.body)
+            return Update(pending, stored, names, number(told, "nodes"))
+        except ProgramFailed:
+            self.children.distrust()
+            raise
+
+    def _to_store(self, told: Mapping[str, Any], line: bytes, member: str, value: bytes) -> bytes:
+        """The line for the log, which the child prints unless the log is of the first format."""
+        if "log" not in self._opening:
+            return with_first(line, member, value)
+        store = told.get("store")
+        if not isinstance(store, bytes) or not store.endswith(line[1:]):
+            self.children.distrust()
+            raise ProgramFailed("the program printed no line for the log, or another one: use the program of this version")
+        return store
 
     def log_prepared(self, update: Update) -> None:
         """Appends the line of a prepared update, which is pending then. If the log refuses the line, what was pending before is
@@ -315,16 +386,18 @@ class Engine:
         self._prepared(update)
 
     def _withdraw(self) -> None:
-        if self.update:
-            try:
-                is_same = self.ask(self.update.line).get("body") == self.update.pending.body.hex()
-            except ChildrenDiffer:
-                # They note it, and lookups go on.
-                return
-            except ProviderError:
-                is_same = False
-            if not is_same:
-                self.children.distrust()
+        """Has the child drop an update that the log doesn't have, and take back what was pending before."""
+        try:
+            self.ask(_WITHDRAW)
+            if self.update:
+                # What that one has replaced isn't pending any more. The child compares its body.
+                said = members_of(self.update.line, LogFailed, "a `prepare` line")
+                self.ask(encoded({it: said[it] for it in said if it != "abandons"}))
+        except ChildrenDiffer:
+            # They note it, and lookups go on.
+            pass
+        except ProviderError:
+            self.children.distrust()
 
     def install(self, signature: bytes) -> None:
         """Has the child install the pending update. Its epoch is `unlogged` until `log_installed` returns."""
@@ -335,7 +408,7 @@ class Engine:
             self.children.distrust()
             raise ProgramFailed(f"the program refuses a pending update: {fault}. Retry") from fault
         epoch = self._installed(signature, told)
-        self.unlogged = with_member(line, "link", epoch.link), epoch
+        self.unlogged = self._to_store(told, line, "link", epoch.link), epoch
 
     def log_installed(self) -> Epoch:
         """Appends the line of the epoch that the child has installed, which is the latest then."""

@@ -58,10 +58,11 @@ def lock(file: int) -> None:
 
 def identity_at(path: Path) -> Optional[tuple[int, int]]:
     """What tells the file at a path from others, None if there is none."""
-    with suppress(OSError):
+    try:
         found = os.stat(path)
-        return found.st_dev, found.st_ino
-    return None
+    except OSError:
+        return None
+    return found.st_dev, found.st_ino
 
 
 def identity_of(file: int) -> tuple[int, int]:

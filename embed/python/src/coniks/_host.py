@@ -13,11 +13,12 @@ from typing import Any, Callable, Iterable, Iterator, Optional, Sequence
 
 from . import BODY_LENGTH
 from ._children import DIFFER
-from ._engine import Engine, Record, Setting, two_bodies
+from ._engine import Engine, Record, Settings, two_bodies
 from ._snapshot_lines import entries_in, snapshot_in
 from ._threads import Worker
 from .faults import ChildrenDiffer, Closed, LinesDropped, LogForked, NoDirectory, ProgramFailed, ProviderError, ReplayDiffers
 from .faults import SnapshotDiffers
+from .log import Log
 
 # The most starts of a child that ended, and the seconds in which they are counted.
 _STARTS, _SECONDS = 5, 60
@@ -60,8 +61,8 @@ class Host:
     started because none is left. Lookups need only a child's own lock, which is held while it answers.
     """
 
-    def __init__(self, setting: Setting):
-        self._setting, self.changing = setting, threading.Lock()
+    def __init__(self, settings: Settings, log: Log):
+        self.settings, self._log, self.changing = settings, log, threading.Lock()
         # The children of replays aren't that of `engine` before they are done.
         self.engine: Optional[Engine] = None
         self._begun: list[Engine] = []
@@ -80,7 +81,7 @@ class Host:
 
     def verify_by(self, verify: Optional[Verify]) -> None:
         """Has the signatures of snapshots verified by another function from now on."""
-        self._setting = replace(self._setting, verify=verify or self._setting.verify)
+        self.settings = replace(self.settings, verify=verify or self.settings.verify)
 
     @property
     def known(self) -> Engine:
@@ -109,7 +110,7 @@ class Host:
             yield self._answers(waiting.popleft())
 
     def _answers(self, reply: SimpleQueue[Any]) -> list[bytes]:
-        seconds = self._setting.timeout
+        seconds = self.settings.timeout
         try:
             is_well, answers = reply.get(timeout=seconds)
         except Empty:
@@ -122,7 +123,7 @@ class Host:
         """Sends the groups that wait, and answers them. Those that a child which ends leaves are sent to another one."""
         asked = self._taken()
         failure: BaseException = ProgramFailed("the program ended while it was asked: ask again, since it is started again")
-        for tries in range(1 + self._setting.children):
+        for tries in range(1 + self.settings.children):
             try:
                 self._serve_groups(asked, self._revived() if tries else self.known)
             except BaseException as error:
@@ -229,7 +230,7 @@ class Host:
             except LinesDropped:
                 # Another process may have stored a snapshot meanwhile, and dropped the lines below it.
                 self.end(engine)
-                found = snapshot_in(self._setting.log)
+                found = snapshot_in(self._log)
                 if not left or not found or found[0] <= engine.begin:
                     raise
             except BaseException:
@@ -245,12 +246,12 @@ class Host:
                 raise
         if engine.position == 0 and not may_create:
             raise NoDirectory(
-                f"there is no directory in {self._setting.log}: look whether it is the right one, or make one with create=True"
+                f"there is no directory in {self._log}: look whether it is the right one, or make one with create=True"
             )
 
     def begun(self) -> Engine:
         """Another engine, which has replayed nothing."""
-        engine = Engine(self._setting)
+        engine = Engine(self.settings, self._log)
         self._begun.append(engine)
         if self.is_closed:
             self.end(engine)
@@ -340,7 +341,7 @@ class Host:
         """The log's entries, as far as they can be read."""
         found: list[bytes] = []
         with suppress(ProviderError):
-            for entry in entries_in(self._setting.log):
+            for entry in entries_in(self._log):
                 found.append(entry)
         return found
 

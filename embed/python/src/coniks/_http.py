@@ -12,8 +12,9 @@ from ipaddress import ip_address
 from typing import Iterator, Mapping, Optional
 from urllib.parse import urlsplit
 
-from . import BODY_LENGTH, ENTRY_LENGTH
-from .client import Client, entries_of
+from . import BODY_LENGTH, ENTRY_LENGTH, Body, Head, link
+from ._telling import Unusable, Verdict
+from .client import Client, Refusal, entries_of
 from .notes import SKEW
 from .policy import Policy
 
@@ -21,10 +22,6 @@ from .policy import Policy
 CONNECTING, SECONDS = 10.0, 30.0
 # The most bytes of a page, which has 1,000 entries, and the most pages and seconds of a call.
 PAGE, PAGES, LONGEST = 1000 * ENTRY_LENGTH, 100, 300.0
-
-
-class Unusable(Exception):
-    """A service, an auditor or a file can't be used now."""
 
 
 @dataclass(frozen=True)
@@ -44,7 +41,7 @@ def answered(url: str, most: int, body: Optional[bytes] = None, headers: Mapping
         parts = urlsplit(url)
         kind = {"http": HTTPConnection, "https": HTTPSConnection}.get(parts.scheme)
         if kind is None:
-            raise ValueError("a URL begins with http:// or https://")
+            raise Unusable(Verdict.BAD_URL, url=url)
         connection = kind(parts.hostname or "", parts.port, timeout=CONNECTING)
         with closing(connection):
             connection.connect()
@@ -56,12 +53,12 @@ def answered(url: str, most: int, body: Optional[bytes] = None, headers: Mapping
             found = connection.getresponse()
             text: bytes = found.read(most + 1)
     except (OSError, HTTPException, ValueError) as error:
-        raise Unusable(f"{url}: {type(error).__name__} {error}") from error
+        raise Unusable(Verdict.UNREACHABLE, url=url, kind=type(error).__name__, reason=error) from error
     finally:
         if timer:
             timer.cancel()
     if len(text) > most:
-        raise Unusable(f"{url} has more than {most} bytes")
+        raise Unusable(Verdict.TOO_LONG, url=url, most=most)
     return Answer(found.status, {name.lower(): it for name, it in found.getheaders()}, text)
 
 
@@ -72,16 +69,14 @@ def check_token(url: str, token: str) -> None:
     with suppress(ValueError):
         is_private = is_private or ip_address(parts.hostname or "").is_loopback
     if not is_private:
-        raise Unusable(
-            f"{url} is another host and has no TLS, so anyone on the way reads the token: give an https URL, or no token"
-        )
+        raise Unusable(Verdict.WITHOUT_TLS, url=url)
 
 
 def fetched(url: str, most: int = PAGE) -> bytes:
     """Returns the body that a URL has. Raises `Unusable`."""
     found = answered(url, most)
     if found.status != 200:
-        raise Unusable(f"{url} has status {found.status}")
+        raise Unusable(Verdict.BAD_STATUS, url=url, status=found.status)
     return found.body
 
 
@@ -95,7 +90,7 @@ def check_time(client: Client, policy: Policy, entry: bytes, source: str) -> Non
         and start + (epoch - 1) * period > time.time() + SKEW
         and not client.evidence(entry)
     ):
-        raise Unusable(f"{source} shows epoch {epoch}, which begins later than now: its clock is ahead, or yours is slow")
+        raise Unusable(Verdict.TO_COME, source=source, epoch=epoch)
 
 
 def is_signed_again(entry: bytes, latest: bytes) -> bool:
@@ -105,23 +100,32 @@ def is_signed_again(entry: bytes, latest: bytes) -> bool:
 
 def new_entries(client: Client, source: str, is_whole: bool = False, again: bool = False) -> Iterator[bytes]:
     """The entries that a service or an auditor has and a client lacks. They are asked for from the client's latest one on, so that
-    another one in its place is noticed; or from the first one on, since only whole entries convict. With `again` the latest one is among
-    them if its body was signed again. Raises `Unusable` and `Refusal`. A source that never ends is left after some pages or minutes, and
-    the next call goes on.
+    another one in its place is noticed; or from the first one on, since only whole entries convict. With `again` those are among them
+    whose body the client has with another signature. Raises `Unusable` and `Refusal`. A source that never ends is left after some pages
+    or minutes, and the next call goes on.
     """
     entries = client.entries
     latest = (entries or [bytes(ENTRY_LENGTH)])[-1]
-    known = {it[:BODY_LENGTH] for it in entries}
+    known = {it if again else it[:BODY_LENGTH] for it in entries}
     start = after = 0 if is_whole else int.from_bytes(latest[9:17], "big")
     pages, until = 0, time.monotonic() + LONGEST
     while page := entries_of(fetched(f"{source}/v1/entries?after={after}")):
         if pages and (pages >= PAGES or time.monotonic() > until):
-            raise Unusable(f"{source} has more entries than are taken at once: the next run goes on")
+            raise Unusable(Verdict.MORE_ENTRIES, source=source)
         pages += 1
         epochs = [after, *(int.from_bytes(it[1:9], "big") for it in page)]
         if epochs != sorted(set(epochs)):
-            raise Unusable(f"{source}: its entries do not rise")
-        yield from (it for it in page if it[:BODY_LENGTH] not in known or (again and is_signed_again(it, latest)))
+            raise Unusable(Verdict.NOT_RISING, source=source)
+        yield from (it for it in page if (it if again else it[:BODY_LENGTH]) not in known)
         after = epochs[-1]
     if known and after == start:
-        raise Unusable(f"{source} shows an older chain than before: it is late, or hides epochs")
+        raise Unusable(Verdict.OLDER, source=source)
+
+
+def has_other_signature(client: Client, source: str, head: Head) -> bool:
+    """Whether a source shows the entry of a head that differs from the client's, and that entry is no evidence: it has the same body, and
+    another signature."""
+    shown = (it for it in new_entries(client, source, is_whole=True, again=True) if Head(Body.of_entry(it).epoch, link(it)) == head)
+    with suppress(Refusal):
+        return any(not client.evidence(it) for it in shown)
+    return False

@@ -2,15 +2,13 @@
 
 from __future__ import annotations
 
-import base64
 import json
-import os
 import secrets
+from binascii import b2a_base64, hexlify
 from dataclasses import dataclass, field
-from typing import Any, Callable, Iterable, Iterator, Mapping, Optional, Sequence, Union
+from typing import Any, Callable, Iterable, Iterator, Mapping, Optional, Union
 
-from . import BODY_LENGTH, ENTRY_LENGTH, _bytes, _number, faults
-from ._files import Path
+from . import BODY_LENGTH, ENTRY_LENGTH, _bytes, faults
 from ._threads import Turn
 from .faults import LogFailed, NotText, ProgramFailed, ProviderError
 
@@ -90,6 +88,9 @@ class Lookup:
     line: bytes
 
 
+# What is before the line for the log, the last member of a reply. No text of JSON contains it.
+_STORE = b',"store":'
+
 _ENCODER = json.JSONEncoder(ensure_ascii=False, separators=(",", ":"))
 
 
@@ -97,9 +98,9 @@ def encoded(members: Mapping[str, Any]) -> bytes:
     return _ENCODER.encode(members).encode()
 
 
-def with_member(line: bytes, member: str, value: bytes) -> bytes:
-    """A line with one more member, of hexadecimal digits."""
-    return b"".join([memoryview(line)[:-1], f',"{member}":"{value.hex()}"}}'.encode()])
+def with_first(line: bytes, member: str, value: bytes) -> bytes:
+    """A line with one more member before the others, of hexadecimal digits."""
+    return b"".join([f'{{"{member}":"{value.hex()}",'.encode(), memoryview(line)[1:]])
 
 
 def lookup_line(name: str, index: bytes, epoch: int) -> bytes:
@@ -117,18 +118,25 @@ def prepare_line(epoch: int, operations: Iterable[Operation], nonce: Optional[by
     for it in operations:
         if not isinstance(it, (Register, Change)):
             raise TypeError(f"an operation is Register or Change, not {type(it).__name__}")
-        listed += b"," * bool(listed) + _operation(it, index_of(it.name).hex())
+        listed += b"," if listed else b""
+        listed += _operation(it, index_of(it.name))
         turn.pause()
     new_nonce = "" if nonce is None else f',"nonce":"{sized(nonce, 32, "the nonce").hex()}"'
-    head = f'{{"cmd":"prepare","epoch":{_number(epoch, 64, "the epoch")}{new_nonce},"ops":['
+    head = f'{{"cmd":"prepare","epoch":{whole(epoch)}{new_nonce},"ops":['
     return b"".join([head.encode(), listed, b"]}"])
 
 
-def _operation(it: Operation, index: str) -> bytes:
+def _operation(it: Operation, index: bytes) -> bytes:
     """An operation in a line. Each is encoded by itself: one call for all would keep other threads waiting until it returns."""
-    kind, name = type(it).__name__.lower(), _ENCODER.encode(it.name)
-    key, opening = base64.b64encode(_bytes(it.key, "a key")).decode(), sized(it.opening, 32, "an opening").hex()
-    return f'{{"op":"{kind}","name":{name},"index":"{index}","key":"{key}","opening":"{opening}"}}'.encode()
+    kind = b"register" if isinstance(it, Register) else b"change"
+    key, opening = b2a_base64(_bytes(it.key, "a key"), newline=False), hexlify(sized(it.opening, 32, "an opening"))
+    return b'{"op":"%s","name":%s,"index":"%s","key":"%s","opening":"%s"}' % (
+        kind,
+        _ENCODER.encode(it.name).encode(),
+        hexlify(index),
+        key,
+        opening,
+    )
 
 
 def members_of(line: bytes, error: type[ProviderError], what: str) -> Any:
@@ -153,6 +161,12 @@ def digits(members: Mapping[str, Any], name: str, size: int, error: type[Provide
     return value
 
 
+def has_digits(members: Mapping[str, Any], name: str, value: bytes) -> bool:
+    """Whether a member has the hexadecimal digits of a value, of either case."""
+    found = members.get(name)
+    return isinstance(found, str) and found.lower() == value.hex()
+
+
 def number(members: Mapping[str, Any], name: str, error: type[ProviderError] = ProgramFailed) -> int:
     value = members.get(name)
     if not isinstance(value, int):
@@ -161,9 +175,13 @@ def number(members: Mapping[str, Any], name: str, error: type[ProviderError] = P
 
 
 def answer(line: bytes) -> Mapping[str, Any]:
-    """What the program printed, if it accepted a line; else raises the fault."""
-    members: Mapping[str, Any] = members_of(line, ProgramFailed, "what the program printed")
+    """What the program printed, if it accepted a line; else raises the fault. Its `store`, if there is one, is bytes."""
+    at = line.find(_STORE)
+    said = line if at < 0 else line[:at] + b"}"
+    members: dict[str, Any] = members_of(said, ProgramFailed, "what the program printed")
     if "ok" in members:
+        if at >= 0:
+            members["store"] = line[at + len(_STORE) : -1]
         return members
     kind = faults.BY_NAME.get(str(members.get("fault")))
     if kind is None:
@@ -210,19 +228,18 @@ def grouped(lines: Iterable[bytes], size: int) -> Iterator[list[bytes]]:
         yield group
 
 
-def command(program: Union[Path, Sequence[str]], workers: Optional[int], depth: Optional[int]) -> list[str]:
-    """The program with its arguments."""
-    words = [os.fspath(program)] if isinstance(program, (str, os.PathLike)) else list(program)
-    for option, value in [("--workers", workers), ("--depth", depth)]:
-        words += [] if value is None else [option, str(_number(value, 64, option))]
-    return words
+def whole(epoch: Any) -> int:
+    """A number of an epoch. Whether there can be one is the program's to say."""
+    if not isinstance(epoch, int) or isinstance(epoch, bool):
+        raise TypeError(f"an epoch is a whole number, not {type(epoch).__name__}")
+    return epoch
 
 
 def sized(value: Any, size: int, what: str) -> bytes:
-    value = _bytes(value, what)
-    if len(value) != size:
-        raise ValueError(f"{what} has {size} bytes, not {len(value)}")
-    return bytes(value)
+    found: bytes = value if type(value) is bytes else _bytes(value, what)
+    if len(found) != size:
+        raise ValueError(f"{what} has {size} bytes, not {len(found)}")
+    return found
 
 
 def text(name: Any) -> str:

@@ -5,19 +5,18 @@ from __future__ import annotations
 import base64
 import json
 import time
-from dataclasses import dataclass, field
+from dataclasses import dataclass, field, replace
 from typing import Any, Mapping, Optional, Sequence
 from urllib.parse import quote
 
 from nacl.signing import SigningKey
 
 from . import Body
-from ._http import Unusable
+from ._confirming import Agreement, settle
 from ._messages import History, Reply
 from ._person import REPLY, TRIES, Person, bare, detail, key_text
-from ._telling import ALARM, UNVERIFIED, in_words
-from .client import Client, Found, Refusal, Watched
-from .names import shown
+from ._telling import Unusable, Verdict
+from .client import Client, Found, Refusal, Reported, Watched
 from .vouching import Change, first, following, judged
 
 # The most bytes of a history, and the most epochs of one.
@@ -61,6 +60,12 @@ class Own:
         """The epochs that can no longer be verified: those that were dropped, and kept ones."""
         return [it.epoch for it in self.client.alarms if it.seen is Watched.MISSING] + self.client.lost
 
+    @property
+    def alarmed(self) -> set[int]:
+        """The epochs of another key or of none: all that were dropped, and the first one that is reported."""
+        report, dropped = self.client.report(), {it.epoch for it in self.client.alarms if it.seen is not Watched.MISSING}
+        return dropped | ({report.first} if report.what is Reported.CHANGED else set())
+
     def feed(self, entries: Sequence[bytes]) -> None:
         """Takes the entries of the chain that this name's client lacks, and its latest one if that was signed again."""
         head, latest = self.client.head(), self.client.entries[-1:]
@@ -88,7 +93,11 @@ class OwnNames:
         try:
             self.names = {name: Own.read(person, name, it) for name, it in person.state["own"].items()}
         except (KeyError, TypeError, ValueError, AttributeError, Refusal) as error:
-            raise Unusable(f"the state was changed: {error}") from error
+            raise person.changed(error) from error
+
+    @property
+    def clients(self) -> list[Client]:
+        return [it.client for it in self.names.values()]
 
     def save(self) -> None:
         self._person.state["own"] = {name: it.members() for name, it in self.names.items()}
@@ -100,11 +109,10 @@ class OwnNames:
         """Signs a record of a key and sends it, or sends the one that is under way. If something interrupts it, the same call goes on."""
         person, (found, reply) = self._person, self._person.look(name)
         if name not in self.names and name not in person.state["past"] and found.key is not None:
-            text = f'{shown(name)} is taken: it has the key "{key_text(found.key)}" (epoch {found.epoch})'
-            return person.tell(text, ALARM, name=name, epoch=found.epoch, key=key_text(found.key))
+            return person.tell(Verdict.OWN_TAKEN, name=name, epoch=found.epoch, key=key_text(found.key))
         own = self.names[name] = self._taken_back(name, self._own(name), found.key, key)
         if own.next and bare(own.next) != key:
-            raise Unusable(f'the key "{key_text(own.next)}" of {shown(name)} is signed and sent: register it before another one')
+            raise Unusable(Verdict.OWN_UNDER_WAY, name=name, key=key_text(own.next))
         is_present = found.key == (own.value or None)
         if is_present and not own.next and (not own.value or bare(own.value) != key):
             self._sign(name, own, found, reply, key)
@@ -120,7 +128,7 @@ class OwnNames:
             return
         self._take(name, own, found, reply)
         if own.missing:
-            raise Unusable(f"{shown(name)}: {in_words(own.missing)} must be verified before the key is changed")
+            raise Unusable(Verdict.OWN_UNVERIFIED, name=name, missing=own.missing)
         own.next = following(place, own.secret, own.value, key)
 
     def _own(self, name: str) -> Own:
@@ -129,18 +137,28 @@ class OwnNames:
         if name in self.names:
             return self.names[name]
         past = person.state["past"].pop(name, None)
-        return Own.read(person, name, past) if past else Own(person.opened(person.chain.state.hex()), SigningKey.generate())
+        if past is None:
+            return Own(person.opened(person.chain.state.hex()), SigningKey.generate())
+        own = Own.read(person, name, past)
+        head, kept = own.client.head(), person.chain.entries[:1]
+        is_behind = head and kept and head.epoch < Body.of_entry(kept[0]).epoch
+        return self._anew(name, own) if is_behind else own
+
+    def _anew(self, name: str, own: Own) -> Own:
+        """A name that is watched from the latest epoch on: what was before is in no chain of its client."""
+        found = Own(self._person.opened(self._person.chain.state.hex()), own.secret, own.value, own.next)
+        if own.value:
+            found.client.watch(name, own.value)
+        return found
 
     def _taken_back(self, name: str, own: Own, now: Optional[bytes], key: bytes) -> Own:
         """The name with a record that its secret key signed and the state lacks, as after a restore, if that has the key of the user."""
-        person, before = self._person, own.value or own.next
+        before = own.value or own.next
         if not before or now is None or now in (own.value, own.next) or bare(now) != key:
             return own
-        if judged(person.place(name), before, now) is not Change.VOUCHED:
+        if judged(self._person.place(name), before, now) is not Change.VOUCHED:
             return own
-        found = Own(person.opened(person.chain.state.hex()), own.secret, now)
-        found.client.watch(name, now)
-        return found
+        return self._anew(name, replace(own, value=now, next=b""))
 
     def _send(self, name: str, own: Own) -> None:
         """Sends the operation that is under way, and waits for its epoch for a while."""
@@ -155,22 +173,34 @@ class OwnNames:
 
     # Watching.
 
-    def watch(self, beside: str) -> None:
-        """Verifies that each name has its key at each epoch. `beside` is said of each epoch."""
+    def watch(self, agreement: Agreement) -> None:
+        """Verifies that each name has its key at each epoch, and reports it."""
         if not self.names:
-            self._person.tell("no name is watched: register one", UNVERIFIED)
-        for name in list(self.names):
-            is_shown = self._person.tried(lambda: self._watch_one(name, beside))
-            self._tell_refused(name, self.names[name], is_shown)
+            self._person.tell(Verdict.OWN_NONE)
+        for name, own in self.names.items():
+            self._watch_one(name, own, agreement)
+
+    def _watch_one(self, name: str, own: Own, agreement: Agreement) -> None:
+        latest = list[Shown]()
+        is_shown = self._person.tried(lambda: latest.append(self._latest(name, own)))
+        if own.value:
+            settle(own.client, agreement.heads, agreement.is_enough)
+            self._tell_lost(name, own)
+            self._tell_shown(name, own, agreement)
+        if own.next and latest:
+            self._tell_waiting(name, own, latest[0])
+        self._tell_refused(name, own, is_shown)
         self.save()
 
-    def _watch_one(self, name: str, beside: str) -> None:
-        own, (found, reply) = self.names[name], self._person.look(name)
+    def _latest(self, name: str, own: Own) -> Shown:
+        """What the latest epoch shows, after all that is missing was asked for."""
+        found, reply = self._person.look(name)
         self._settle(name, own, found)
         if own.value:
-            self._verify(name, own, found, reply, beside)
-        if own.next:
-            self._tell_waiting(name, own, found, reply)
+            self._take(name, own, found, reply)
+        if own.value and found.key == own.value:
+            self._person.accept(name, own.value, reply, True)
+        return Shown(found, reply)
 
     def _settle(self, name: str, own: Own, found: Found) -> None:
         """Expects the record that is under way, once an epoch shows it."""
@@ -182,15 +212,6 @@ class OwnNames:
         own.client.expect(own.next, by=found.epoch)
         own.value, own.next = own.next, b""
 
-    def _verify(self, name: str, own: Own, found: Found, reply: bytes, beside: str) -> None:
-        """Verifies what each epoch shows, and tells it."""
-        self._take(name, own, found, reply)
-        self._tell_lost(name, own)
-        self._tell_shown(name, [it for _, it in sorted(self._shown[name].items())], beside)
-        if found.key == own.value:
-            self._person.accept(name, own.value, reply, True)
-        self.save()
-
     def _take(self, name: str, own: Own, found: Found, reply: bytes) -> None:
         """Takes what epochs show. That of the latest one counts, whatever is refused of the others."""
         person, shown_at = self._person, self._shown.setdefault(name, {})
@@ -198,6 +219,16 @@ class OwnNames:
         shown_at[found.epoch] = Shown(own.client.lookup(name, reply, found.epoch), reply)
         for epochs in spans(own):
             person.tried(lambda: shown_at.update(self._history(name, own, epochs)))
+        for it in self._wrong(name)[:1]:
+            self.keep(name, it.found.key, it.reply)
+
+    def _wrong(self, name: str) -> list[Shown]:
+        """What was verified in this run, and is another key or none."""
+        return [it for it in self._verified(name) if it.found.seen in (Watched.CHANGED, Watched.ABSENT)]
+
+    def _verified(self, name: str) -> list[Shown]:
+        """What was verified in this run, in the order of the epochs."""
+        return [it for _, it in sorted(self._shown.get(name, {}).items())]
 
     def _history(self, name: str, own: Own, epochs: Sequence[int]) -> dict[int, Shown]:
         """What the service shows at epochs."""
@@ -210,22 +241,26 @@ class OwnNames:
             for it, step in zip(found, parts.steps())
         }
 
-    # Sentences.
+    # What is printed.
 
-    def _tell_shown(self, name: str, shown_at: Sequence[Shown], beside: str) -> None:
-        """Tells the keys with their epochs, first those that aren't the user's, of which a reply is kept."""
-        person, wrong = self._person, [it for it in shown_at if it.found.seen in (Watched.CHANGED, Watched.ABSENT)]
-        if wrong:
-            self.keep(name, wrong[0].found.key, wrong[0].reply)
+    def _tell_shown(self, name: str, own: Own, agreement: Agreement) -> None:
+        """Reports the keys with their epochs, first those that aren't the user's."""
+        person, wrong = self._person, self._wrong(name)
         for key, epochs in by_key(wrong).items():
-            what = "no key" if key is None else f'the key "{key}"'
-            text = f"{shown(name)} has {what} ({in_words(epochs)}), which is not yours: tell all who use it"
-            person.tell(text, ALARM, name=name, epochs=epochs, key=key)
-        right = by_key([it for it in shown_at if it.found.seen is Watched.SAME and it.found.key is not None])
+            person.tell(Verdict.OWN_CHANGED, name=name, epochs=epochs, key=key)
+        self._tell_alarms(name, own, [it.found.epoch for it in wrong])
+        right = by_key([it for it in self._verified(name) if it.found.seen is Watched.SAME and it.found.key is not None])
         if right:
-            keys = " and ".join(f'"{key}" ({in_words(epochs)}{beside})' for key, epochs in right.items())
             epochs = [it for them in right.values() for it in them]
-            person.tell(f"{shown(name)} has your key {keys}", name=name, epochs=epochs, key=list(right)[-1])
+            keys = [(key, epochs, agreement.verdict) for key, epochs in right.items()]
+            told: dict[str, Any] = {"keys": keys, "key": list(right)[-1], "report": own.client.report().what.value}
+            person.tell(Verdict.OWN_SHOWN, name=name, epochs=epochs, **told)
+
+    def _tell_alarms(self, name: str, own: Own, but: Sequence[int]) -> None:
+        """Reports the epochs that were alarms in earlier runs, until their owner takes note of them."""
+        epochs = sorted(own.alarmed - {*but})
+        if epochs:
+            self._person.tell(Verdict.OWN_ALARM, name=name, epochs=epochs)
 
     def keep(self, name: str, key: Optional[bytes], reply: bytes) -> None:
         """Keeps a reply that shows another key than the user's, as what convicts the directory if it does."""
@@ -233,29 +268,22 @@ class OwnNames:
         if not any((it["kind"], it.get("name")) == ("unvouched", name) for it in self._person.state["found"]):
             self._person.keep("changed", reply, name=name)
 
-    def _tell_waiting(self, name: str, own: Own, found: Found, reply: bytes) -> None:
+    def _tell_waiting(self, name: str, own: Own, latest: Shown) -> None:
         """Tells what became of the record that is under way."""
-        tell, members = self._person.tell, {"name": name}
+        tell, found = self._person.tell, latest.found
         if not own.value and found.key is not None:
-            self.keep(name, found.key, reply)
-            text = f'{shown(name)} has another key than yours, "{key_text(found.key)}" (epoch {found.epoch}): tell all who use it'
-            tell(text, ALARM, key=key_text(found.key), **members)
+            self.keep(name, found.key, latest.reply)
+            tell(Verdict.OWN_OTHER, name=name, key=key_text(found.key), epoch=found.epoch)
         elif name in self._refusals:
-            tell(
-                f'the service refuses the key "{key_text(own.next)}" of {shown(name)}: {self._refusals[name]}',
-                UNVERIFIED,
-                **members,
-            )
+            tell(Verdict.OWN_REFUSED, name=name, key=key_text(own.next), detail=self._refusals[name])
         else:
-            text = f'the key "{key_text(own.next)}" of {shown(name)} waits for its epoch: run the command again after that'
-            tell(text, UNVERIFIED, **members)
+            tell(Verdict.OWN_WAITING, name=name, key=key_text(own.next))
 
     def _tell_lost(self, name: str, own: Own) -> None:
         """Tells the epochs that can no longer be verified. It is status 3 once."""
         lost = own.unverified
         if lost:
-            status = UNVERIFIED if set(lost) - set(own.lost) else 0
-            self._person.tell(f"{shown(name)}: {in_words(lost)} can no longer be verified", status, lost=lost)
+            self._person.tell(Verdict.OWN_LOST if set(lost) - set(own.lost) else Verdict.OWN_LOST_BEFORE, name=name, lost=lost)
         own.lost = lost
 
     def _tell_refused(self, name: str, own: Own, is_shown: bool) -> None:
@@ -266,12 +294,23 @@ class OwnNames:
             return
         own.refused = own.refused or now
         is_overdue = period is not None and now - own.refused > period
-        what = in_words(missing) if missing else "the latest epoch"
-        text = f"{shown(name)}: the service shows no proof for {what}"
-        if is_overdue:
-            text += f" for more than {period} seconds, though its policy promises it: tell all who use it"
         if missing or is_overdue:
-            self._person.tell(text, ALARM if is_overdue else UNVERIFIED, name=name, missing=missing)
+            verdict = Verdict.OWN_OVERDUE if is_overdue else Verdict.OWN_MISSING
+            self._person.tell(verdict, name=name, missing=missing, period=period)
+
+    def note(self, name: str) -> None:
+        """Reports the alarms of a name, and takes note of them: they are reported no more."""
+        own = self.names.get(name)
+        if own is None:
+            raise Unusable(Verdict.OWN_UNWATCHED, name=name)
+        alarms = own.client.alarms
+        if not alarms:
+            return self._person.tell(Verdict.OWN_NOTHING, name=name)
+        self._tell_lost(name, own)
+        self._tell_alarms(name, own, [])
+        own.client.note(alarms[-1].epoch)
+        self.save()
+        self._person.tell(Verdict.OWN_NOTED, name=name, epochs=[it.epoch for it in alarms])
 
 
 def spans(own: Own) -> list[list[int]]:

@@ -10,10 +10,11 @@ from urllib.parse import quote
 
 from . import Policy
 from ._client_state import StateFile
-from ._http import Answer, Unusable, answered, check_time, check_token, new_entries
-from ._telling import ALARM, UNVERIFIED, Telling
+from ._http import Answer, answered, check_time, check_token, new_entries
+from ._telling import Telling, Told, Unusable, Verdict
 from .client import Client, Found, Refusal
 from .notes import Auditor, BadNote
+from .trust import Trust
 from .vouching import Change, Place, Record, convicts, judged
 
 # The statuses by which a service asks who someone is.
@@ -22,16 +23,16 @@ _WHO = (401, 403)
 REPLY, TRIES = 1 << 15, 5
 
 
-class Alarm(Exception):
+class Alarm(Told):
     """Something that the user must see, with what is kept of it: its kind and its parts."""
 
-    def __init__(self, text: str, kind: str, *parts: bytes):
+    def __init__(self, verdict: Verdict, kind: str, *parts: bytes, **values: Any):
         self.kind, self.parts = kind, parts
-        super().__init__(text)
+        super().__init__(verdict, **values)
 
 
 class Person:
-    """The members of a state, and a client of the library for the chain."""
+    """The members of a state, and a client of the library for the chain. `trust` has its auditors, None if there are none."""
 
     def __init__(self, file: StateFile, members: dict[str, Any], tell: Telling):
         self._file, self.tell = file, tell
@@ -40,14 +41,20 @@ class Person:
             self.policy = Policy.read(members["policy"].encode())
             tell.origin = self.policy.origin
             self.auditors = {url: Auditor.read(key) for url, key in members["auditors"]}
+            named = tuple(self.auditors.values())
+            self.trust = Trust(self.policy.digest, named, members["faulty"]) if named else None
             self.chain = self.opened(members["chain"])
         except (KeyError, TypeError, ValueError, AttributeError, Refusal) as error:
-            raise Unusable(f"{file.path} was changed: {error}") from error
+            raise self.changed(error) from error
+
+    def changed(self, error: Exception) -> Unusable:
+        """What an error in the members of the state means."""
+        return Unusable(Verdict.STATE_CHANGED, path=self._file.path, reason=error)
 
     def opened(self, state: str = "") -> Client:
-        """A client of a state in hexadecimal digits."""
-        keys = self.policy.signing_key, self.policy.vrf_key
-        return Client(*keys, self.policy, bytes.fromhex(state) if state else None)
+        """A client of a state in hexadecimal digits. The marks of other auditors than those of now are left."""
+        keys, trust = (self.policy.signing_key, self.policy.vrf_key), self.trust.of_client if self.trust else None
+        return Client(*keys, self.policy, bytes.fromhex(state) if state else None, trust=trust)
 
     def place(self, name: str) -> Place:
         return Place(self.policy.digest, name)
@@ -64,19 +71,22 @@ class Person:
             self.state["found"].append({"kind": kind, "evidence": [it.hex() for it in parts], **members})
         self.save()
 
-    def tried(self, call: Callable[[], None], status: int = UNVERIFIED) -> bool:
-        """Makes a call, and tells what ends it, with this status unless it is an alarm. Returns whether nothing did."""
+    def tried(self, call: Callable[[], None], is_beside: bool = False) -> bool:
+        """Makes a call, and tells what ends it. What is beside something else counts only if it is an alarm. Returns whether nothing
+        ended it."""
         try:
             call()
         except Refusal as error:
             if error.evidence:
                 self.keep("entries", error.evidence.mine, error.evidence.other, why=error.evidence.kind.name.lower())
-            self.tell(str(error), ALARM if error.evidence else status, cause=error.cause.name)
-        except Alarm as error:
-            self.keep(error.kind, *error.parts)
-            self.tell(str(error), ALARM)
-        except (Unusable, BadNote) as error:
-            self.tell(str(error), status)
+            verdict = Verdict.CONVICTED if error.evidence else Verdict.REFUSED
+            self.tell(verdict, is_beside, reason=error, cause=error.cause.name)
+        except Told as error:
+            if isinstance(error, Alarm):
+                self.keep(error.kind, *error.parts)
+            self.tell(error.verdict, is_beside, **error.values)
+        except BadNote as error:
+            self.tell(Verdict.UNUSABLE, is_beside, reason=error)
         else:
             return True
         return False
@@ -97,7 +107,7 @@ class Person:
     def got(self, target: str, most: int) -> bytes:
         found = self.ask(target, most)
         if found.status != 200:
-            raise Unusable(f"the service refuses {target.partition('?')[0]}: {detail(found)}")
+            raise Unusable(Verdict.SERVICE_REFUSES, target=target.partition("?")[0], detail=detail(found))
         return found.body
 
     def follow(self) -> None:

@@ -6,8 +6,8 @@ from hashlib import sha256
 from typing import TYPE_CHECKING, Any, Iterable, Mapping, Optional
 
 from . import BODY_LENGTH, ENTRY_LENGTH
-from ._lines import Epoch, digits, latest_of, members_of, number
-from ._snapshot_lines import FORMAT, OPENING, Point, refused
+from ._lines import Epoch, digits, encoded, has_digits, latest_of, members_of, number
+from ._snapshot_lines import FORMAT, GROUP, OPENING, Point, refused
 from .faults import Command, Fault, LogFailed, ProgramFailed, ProviderError, SnapshotDiffers
 
 if TYPE_CHECKING:
@@ -25,6 +25,8 @@ _AFTER: Mapping[Optional[str], set[str]] = {
     "restoring": {"restoring", "restored"},
     "restored": set(),
 }
+# The kinds of lines that have no `cmd`.
+_PARTS = ("snapshot", "entries", "replaced")
 
 
 class _Wrong(ProviderError):
@@ -62,8 +64,8 @@ class Restoring:
 
     def _take(self, line: bytes) -> None:
         said = members_of(line, _Wrong, "it")
-        kind = said["cmd"] if "cmd" in said else next((it for it in ("snapshot", "entries", "replaced") if it in said), None)
-        if not isinstance(kind, str) or kind not in _AFTER[self._last]:
+        kind = said["cmd"] if "cmd" in said else next((it for it in _PARTS if it in said), None)
+        if not isinstance(kind, str) or kind not in _AFTER[self._last] or ("cmd" in said and kind in _PARTS):
             raise self._refused("has a line that doesn't follow the one before it")
         take = {"snapshot": self._begin, "entries": self._add_entries, "replaced": self._add_replaced}.get(kind)
         if take:
@@ -101,14 +103,16 @@ class Restoring:
     def _listed(self, said: Mapping[str, Any], member: str, size: int) -> list[bytes]:
         """The values of a member that is a list of digits."""
         found = said[member]
-        if not isinstance(found, list) or not found:
-            raise self._refused(f"has a line whose member {member} is no list")
+        if not isinstance(found, list) or not 1 <= len(found) <= GROUP:
+            raise self._refused(f"has a line whose member {member} is no list of 1 to {GROUP}")
         return [digits({member: it}, member, size, _Wrong) for it in found]
 
     def _ask(self, kind: str, line: bytes, said: Mapping[str, Any]) -> None:
         """Has the child take a line that is one of its own."""
         if kind == "restore":
             self._check_entry(said)
+            # The rules of the log hold for the lines after it.
+            line = encoded({**said, "log": self._header["log"]}) if "log" in self._header else line
         try:
             # The tree is built for all names at once.
             told = self._engine.ask(line, 1 + self._counted // _BATCH if kind == "restored" else 1)
@@ -128,7 +132,7 @@ class Restoring:
     def _check_entry(self, said: Mapping[str, Any]) -> None:
         """Checks the entry to restore, the position after it, and its signature."""
         entry, verify = self._chain[-1], self._engine.verify
-        if len(self._chain) != self._epochs or said.get("entry") != entry.hex():
+        if len(self._chain) != self._epochs or not has_digits(said, "entry", entry):
             raise self._refused("doesn't restore its last entry, or has another number of entries than its header")
         # The lines below are `open`, a `prepare` for each entry and each replaced body, and an `install` for each entry.
         if self._position != 1 + 2 * len(self._chain) + len(self._replaced):
@@ -147,7 +151,7 @@ class Restoring:
         epoch = Epoch(number(told, "epoch"), root, link, entry)
         if entry != self._chain[-1] or link != link_of(entry):
             raise ProgramFailed("the program has restored another entry than it was given: look which program it is")
-        if said.get("link") != link.hex() or self._counted != self._names:
+        if not has_digits(said, "link", link) or self._counted != self._names:
             raise self._refused("has another link, or another number of names than its header")
         size = latest_of(self._engine.ask(b'{"cmd":"latest"}'))
         if (size.epoch, size.link, size.names) != (epoch.epoch, link, self._names):

@@ -18,7 +18,7 @@ LAST = b'{"cmd":"restored","link":"'
 # The format of snapshots.
 FORMAT = 1
 # The most entries or bodies of a line.
-_GROUP = 1000
+GROUP = 1000
 # About how many bytes a line of bindings has, so that a lookup waits for few of them, and the most bindings.
 _PAGE, _MOST = 1 << 17, 4096
 # The members of the `open` line that a header has.
@@ -75,8 +75,8 @@ def entries_in(log: Log) -> Iterator[bytes]:
 
 
 def grouped(member: str, values: Sequence[bytes]) -> Iterator[bytes]:
-    for at in range(0, len(values), _GROUP):
-        yield encoded({member: [it.hex() for it in values[at : at + _GROUP]]})
+    for at in range(0, len(values), GROUP):
+        yield encoded({member: [it.hex() for it in values[at : at + GROUP]]})
 
 
 def lines_of(

@@ -6,9 +6,10 @@
     coniks-audit --folder audit --listen 127.0.0.1:8081            serves what another process keeps in the folder
 
 The folder has `entries`, all entries that were accepted, `note`, the latest head with this auditor's cosignature, `metrics`, and
-`alarm`, once there is cause for one. The latest head that was cosigned is beside the key too, in `KEY.head`: a folder that lacks it is
-refused. Restore neither file from an old backup: the auditor would cosign heads that overlap those that it has cosigned. Status 0: all
-is well; 1: an alarm; 2: a wrong command line; 3: the service or the folder can't be used, or the service is late.
+`alarm`, once there is cause for one. An entry that was signed again comes after the one whose place it takes. The latest head that was
+cosigned is beside the key too, in `KEY.head`: a folder that lacks it is refused. Restore neither file from an old backup: the auditor
+would cosign heads that overlap those that it has cosigned. Status 0: all is well; 1: an alarm; 2: a wrong command line; 3: the service or
+the folder can't be used, or the service is late.
 """
 
 from __future__ import annotations
@@ -25,30 +26,34 @@ from contextlib import suppress
 from functools import partial
 from http.server import BaseHTTPRequestHandler, ThreadingHTTPServer
 from pathlib import Path
-from typing import Optional, Sequence
+from typing import Any, Optional, Sequence
 
 from nacl.signing import SigningKey
 
-from . import ENTRY_LENGTH, Policy, __version__
+from . import ENTRY_LENGTH, Policy, __version__, link
 from ._files import lock, rewrite
-from ._http import PAGE, Unusable, check_time, fetched, new_entries
-from .client import Cause, Client, Comparison, Refusal
+from ._http import PAGE, check_time, fetched, has_other_signature, is_signed_again, new_entries
+from ._telling import WELL, Told, Unusable, Verdict, event_of, worst
+from .client import Cause, Client, Comparison, Refusal, entries_of
 from .notes import Auditor, BadNote, Note, cosign, read_note, text_of
 
 __all__ = ["Alarm", "Audit", "Unusable", "main"]
 
+# How many epochs behind the policy's clock are late.
+_LATE = 2
+# Where an alarm is stored.
+_FILES = {Verdict.AUDIT_ALARM: "alarm", Verdict.AUDIT_PEER_ALARM: "alarm.peer"}
 # What anyone on the way can make a reply to be, who leaves out an entry for example, so that it is no alarm.
 _HARMLESS = (Cause.SIGNATURE, Cause.ENTRY_LENGTH, Cause.CATCH_UP_LENGTH, Cause.PREVIOUS_EPOCH)
 
 
-class Alarm(Exception):
+class Alarm(Told):
     """What an auditor must tell. `members` are those of the file: `evidence` has the two entries that convict the directory, or the
     one that doesn't follow. `note` is that of another auditor which its entries don't have: that one lied, not the directory."""
 
     def __init__(self, source: str, why: str, evidence: Sequence[bytes] = (), note: str = ""):
         self.members = {"source": source, "why": why, "evidence": [it.hex() for it in evidence], "note": note}
-        self.file = "alarm.peer" if note else "alarm"
-        super().__init__(f"{source}: {why}")
+        super().__init__(Verdict.AUDIT_PEER_ALARM if note else Verdict.AUDIT_ALARM, source=source, why=why)
 
 
 class Shelf:
@@ -64,7 +69,7 @@ class Shelf:
         return b""
 
     def entries(self, after: int) -> bytes:
-        """At most a page of the entries after an epoch."""
+        """At most a page of the entries after an epoch. One that was signed again is sent in the place of the one before it."""
         with suppress(FileNotFoundError), open(self.folder / "entries", "rb") as file:
             low, high = 0, os.fstat(file.fileno()).st_size // ENTRY_LENGTH
             end = high * ENTRY_LENGTH
@@ -72,7 +77,10 @@ class Shelf:
                 middle = (low + high) // 2
                 is_before = int.from_bytes(os.pread(file.fileno(), 8, middle * ENTRY_LENGTH + 1), "big") <= after
                 low, high = (middle + 1, high) if is_before else (low, middle)
-            return os.pread(file.fileno(), min(PAGE, end - low * ENTRY_LENGTH), low * ENTRY_LENGTH)
+            # One entry more than a page shows whether the last one was signed again.
+            page = entries_of(os.pread(file.fileno(), min(PAGE + ENTRY_LENGTH, end - low * ENTRY_LENGTH), low * ENTRY_LENGTH))
+            kept = zip(page[: PAGE // ENTRY_LENGTH], [*page[1:], b""])
+            return b"".join(it for it, after in kept if not is_signed_again(after, it))
         return b""
 
     def page(self, target: str) -> Optional[bytes]:
@@ -94,7 +102,7 @@ class Audit:
         try:
             lock(self._file.fileno())
         except BlockingIOError:
-            raise Unusable(f"another process audits in {folder}") from None
+            raise Unusable(Verdict.AUDIT_TAKEN, folder=folder) from None
         self._resume()
 
     def _resume(self) -> None:
@@ -103,53 +111,81 @@ class Audit:
         stored = self._file.read()
         whole = stored[: len(stored) - len(stored) % ENTRY_LENGTH]
         self._file.truncate(len(whole))
+        notes = [self.read("note"), self._cosigned.read_bytes() if self._cosigned.exists() else b""]
         try:
             self._client.feed(whole)
-            notes = [self.read("note"), self._cosigned.read_bytes() if self._cosigned.exists() else b""]
-            if any(it and self._client.compare(read_note(it).head(self._policy)) is not Comparison.EQUAL for it in notes):
-                raise BadNote("the entries lack the head that was cosigned")
+            heads = [read_note(it).head(self._policy) for it in notes if it]
         except (Refusal, BadNote) as error:
-            raise Unusable(f"{self._folder} was changed, or is an old backup: {error}") from error
+            raise Unusable(Verdict.AUDIT_CHANGED, folder=self._folder, reason=error) from error
+        # Also those of entries that were signed again after the head was cosigned.
+        if not {it.link for it in heads} <= {link(it) for it in entries_of(whole)}:
+            raise Unusable(Verdict.AUDIT_LACKS, folder=self._folder)
+        self._last = max(heads, key=lambda it: it.epoch, default=None)
 
     def follow(self, source: str, is_whole: bool = False) -> None:
         """Takes the entries that a service or another auditor has, and stores those that are new. Raises `Alarm` for one that is signed
         and isn't of this chain."""
-        count, entry = len(self._client.entries), b""
+        taken, entry = list[bytes](), b""
         try:
             for entry in new_entries(self._client, source, is_whole):
                 check_time(self._client, self._policy, entry, source)
-                self._client.feed([entry])
+                self._take(entry, source, taken)
         except Refusal as error:
             if error.cause in _HARMLESS:
-                raise Unusable(f"{source}: {error}") from error
+                raise Unusable(Verdict.AUDIT_REFUSED, source=source, reason=error) from error
             found = error.evidence
             raise Alarm(source, error.cause.name, (found.mine, found.other) if found else (entry,)) from error
         finally:
-            self._file.write(b"".join(self._client.entries[count:]))
+            self._file.write(b"".join(taken))
             self._file.flush()
             os.fsync(self._file.fileno())
+
+    def _take(self, entry: bytes, source: str, taken: list[bytes]) -> None:
+        """Takes an entry that continues the chain, and adds it to those that were taken. If it follows another signature of the latest
+        one, that is taken first."""
+        try:
+            self._client.feed([entry])
+        except Refusal as error:
+            again = self._signed_again(source) if error.cause is Cause.PREVIOUS_LINK else None
+            if again is None:
+                raise
+            self._client.feed([again])
+            taken.append(again)
+            # Its head is of the other signature, which is served no more.
+            (self._folder / "note").unlink(missing_ok=True)
+            self._client.feed([entry])
+        taken.append(entry)
+
+    def _signed_again(self, source: str) -> Optional[bytes]:
+        """The latest entry as a source has it, if that has another signature."""
+        latest = self._client.entries[-1:]
+        return next((it for it in new_entries(self._client, source, again=True) if is_signed_again(it, *latest)), None)
 
     def compare(self, peer: str, auditor: Auditor) -> None:
         """Compares the head of another auditor with this chain. What that one has seen beyond is taken. Raises `Alarm`."""
         try:
             note = read_note(fetched(f"{peer}/v1/note"))
-            head = note.head(self._policy)
+            head, about = note.head(self._policy), {"source": peer, "auditor": auditor.name}
         except BadNote as error:
-            raise Unusable(f"{peer}: {error}") from error
+            raise Unusable(Verdict.AUDIT_REFUSED, source=peer, reason=error) from error
         if not note.times([auditor]):
-            raise Unusable(f"{peer}: the note isn't cosigned by {auditor.name}")
+            raise Unusable(Verdict.AUDIT_NOT_COSIGNED, **about)
         for is_whole in (False, True):
             if self._client.compare(head) is not Comparison.EQUAL:
                 self.follow(peer, is_whole)
-        if self._client.compare(head) is Comparison.DIFFERS:
+        found = self._client.compare(head)
+        if found is Comparison.UNKNOWN:
+            raise Unusable(Verdict.AUDIT_WITHHELD, epoch=head.epoch, **about)
+        if found is Comparison.DIFFERS and has_other_signature(self._client, peer, head):
+            raise Unusable(Verdict.AUDIT_TWICE, epoch=head.epoch, **about)
+        if found is Comparison.DIFFERS:
             raise Alarm(peer, "HEAD_DIFFERS", note=bytes(note).decode())
-        if self._client.compare(head) is Comparison.UNKNOWN:
-            raise Unusable(f"{peer}: the entries up to epoch {head.epoch} are withheld, which {auditor.name} has cosigned")
 
     def sign(self) -> None:
-        """Cosigns the latest head, all entries up to which are stored."""
-        head = self._client.head()
-        if head and not self.read("alarm"):
+        """Cosigns the latest head, all entries up to which are stored. Of an epoch it cosigns one head, also if that is signed again."""
+        head, last = self._client.head(), self._last
+        if head and not self.read("alarm") and (last is None or last == head or last.epoch < head.epoch):
+            self._last = head
             text = text_of(self._policy, head)
             note = bytes(Note(text, (cosign(self._name, self._key, text, int(time.time())),)))
             # First beside the key: what was published must be there, whatever becomes of the folder.
@@ -161,23 +197,28 @@ class Audit:
         head, now = self._client.head(), self._policy.epoch_at(time.time()) if self._policy.epoch_period else 0
         return max(0, now - (head.epoch if head else 0))
 
-    def round(self, service: str, peers: Sequence[tuple[str, Auditor]]) -> bool:
-        """Follows the service, compares heads with the peers, and cosigns. Returns whether all could be asked, and no epoch is late.
-        An alarm is stored, unless there is one: the first one tells most."""
-        is_well = True
+    def round(self, service: str, peers: Sequence[tuple[str, Auditor]]) -> int:
+        """Follows the service, compares heads with the peers, and cosigns. Returns the status, which is that of an alarm as long as one is
+        stored."""
+        verdicts = [Verdict.AUDITED]
         for step in [partial(self.follow, service), *(partial(self.compare, *it) for it in peers)]:
             try:
                 step()
-            except Unusable as error:
-                is_well = False
-                tell("unusable", str(error))
-            except Alarm as alarm:
-                tell("alarm", str(alarm))
-                if not self.read(alarm.file):
-                    rewrite(self._folder / alarm.file, json.dumps({"time": int(time.time()), **alarm.members}).encode() + b"\n")
+            except Told as told:
+                verdicts.append(tell(told.verdict, **told.values))
+                if isinstance(told, Alarm):
+                    self._store(told)
         self.sign()
         rewrite(self._folder / "metrics", self.metrics())
-        return is_well and self.behind() < 2
+        if self.behind() >= _LATE:
+            verdicts.append(tell(Verdict.AUDIT_LATE, behind=self.behind()))
+        return worst(it.status for it in [*verdicts, *(it for it, file in _FILES.items() if self.read(file))])
+
+    def _store(self, alarm: Alarm) -> None:
+        """Stores an alarm, unless there is one: the first one tells most."""
+        file = _FILES[alarm.verdict]
+        if not self.read(file):
+            rewrite(self._folder / file, json.dumps({"time": int(time.time()), **alarm.members}).encode() + b"\n")
 
     def metrics(self) -> bytes:
         """The metrics, in Prometheus's text format."""
@@ -191,8 +232,11 @@ class Audit:
         return "".join(f"coniks_audit_{name} {value}\n" for name, value in rows.items()).encode()
 
 
-def tell(event: str, text: str) -> None:
-    print(json.dumps({"time": int(time.time()), "event": event, "text": text}), file=sys.stderr, flush=True)
+def tell(verdict: Verdict, **values: Any) -> Verdict:
+    """Prints a verdict as a line of JSON, and returns it."""
+    line = {"time": int(time.time()), "event": event_of(verdict), "text": verdict.sentence(values)}
+    print(json.dumps(line), file=sys.stderr, flush=True)
+    return verdict
 
 
 def serve(shelf: Shelf, host: str, port: int) -> None:
@@ -265,7 +309,7 @@ def new_key(path: Path, name: str) -> int:
     with open(path, "xb", opener=lambda it, flags: os.open(it, flags, 0o600)) as file:
         file.write(bytes(key))
     print(Auditor(name, bytes(key.verify_key)))
-    return 0
+    return WELL
 
 
 def run(given: argparse.Namespace) -> int:
@@ -277,14 +321,14 @@ def run(given: argparse.Namespace) -> int:
         serve(Shelf(given.folder), *given.listen)
     if not given.service:
         end.wait()
-        return 0
+        return WELL
     policy, key = Policy.read(given.policy.read_bytes()), SigningKey(given.key.read_bytes())
     audit = Audit(given.folder, policy, given.name, key, given.head or given.key.with_name(f"{given.key.name}.head"))
     peers = [(url, Auditor.read(text)) for url, text in given.peer]
-    is_well = audit.round(given.service, peers)
+    status = audit.round(given.service, peers)
     while not (given.once or audit.read("alarm") or end.wait(given.interval)):
-        is_well = audit.round(given.service, peers)
-    return 1 if audit.read("alarm") or audit.read("alarm.peer") else 0 if is_well else 3
+        status = audit.round(given.service, peers)
+    return status
 
 
 def main(words: Optional[Sequence[str]] = None) -> int:
@@ -293,8 +337,7 @@ def main(words: Optional[Sequence[str]] = None) -> int:
     try:
         return new_key(given.new_key, given.name) if given.new_key else run(given)
     except Exception as error:
-        tell("ended", f"{type(error).__name__}: {error}")
-        return 3
+        return tell(Verdict.AUDIT_ENDED, kind=type(error).__name__, reason=error).status
 
 
 if __name__ == "__main__":

@@ -5,6 +5,8 @@ from __future__ import annotations
 import importlib
 import sys
 
+from ._telling import Verdict
+
 __all__ = ["audit", "client"]
 
 
@@ -13,7 +15,7 @@ def _run(module: str, command: str) -> int:
         found = importlib.import_module(f".{module}", __package__)
     except ImportError as error:
         print(f"{command}: {error}", file=sys.stderr)
-        return 3
+        return Verdict.UNUSABLE.status
     return int(found.main())
 
 

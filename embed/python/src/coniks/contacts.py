@@ -5,6 +5,7 @@
     coniks-client lookup bob                       a contact's key
     coniks-client verify bob 'age1..'              whether it is the one that bob has told you
     coniks-client watch                            whether your names have your keys at each epoch
+    coniks-client note alice                       take note of its alarms, which are reported no more then
 
 Each command first takes and verifies all new entries, and compares the chain with a quorum of the auditors. A contact's key is that
 of the latest epoch which they confirm. The key of a name is in a record that its owner signs (`coniks.vouching`). Status 0: all is
@@ -26,14 +27,14 @@ from urllib.parse import urlsplit
 
 from . import Body, Policy, __version__
 from ._client_state import StateFile
-from ._confirming import Agreement, Confirming
-from ._http import Unusable, check_token
+from ._confirming import Agreement, Confirming, settle
+from ._http import check_token
 from ._messages import Reply
 from ._own_names import OwnNames
 from ._person import Person, bare, key_text
-from ._telling import ABSENT, ALARM, UNVERIFIED, Telling, printable
-from .names import BadName, canonical, shown
-from .notes import Auditor, BadNote
+from ._telling import WELL, Telling, Unusable, Verdict, printable
+from .names import BadName, canonical
+from .notes import Auditor
 from .trust import Trust
 from .vouching import Change
 
@@ -49,35 +50,35 @@ _COMMANDS = {
     "watch": "verify that your names have your keys at each epoch",
     "compare": "compare the chain with the heads of your auditors",
     "evidence": "print what convicts the directory",
+    "note": "take note of the alarms of a name of yours, which are reported no more then",
     "trust": "tell the fingerprint of your auditors, and write their trust document",
     "set": "change the service, the token or the auditors, or watch a name no more",
 }
 _KINDS = {
-    "entries": "two signed entries that one chain can't have convict the directory",
-    "unvouched": "two replies convict the directory: the owner of the key in the first did not sign what the second shows",
-    "changed": "a reply shows another key than yours; alone it convicts nobody",
-    "head": "an auditor cosigned a head that your chain lacks; it convicts nobody alone: ask the auditor for its entries",
+    "entries": Verdict.FOUND_ENTRIES,
+    "unvouched": Verdict.FOUND_UNVOUCHED,
+    "changed": Verdict.FOUND_CHANGED,
+    "head": Verdict.FOUND_HEAD,
 }
+# The verdicts on the key of an accepted name, and what they are if no quorum confirms it.
+_UNCONFIRMED = {Verdict.KEY: Verdict.KEY_UNCONFIRMED, Verdict.KEY_VOUCHED: Verdict.KEY_VOUCHED_UNCONFIRMED}
 
 
 class Commands:
-    """The commands, over what a run has. Each begins with the new entries, and ends with what the auditors confirm."""
+    """The commands, over what a run has. Those that ask the service begin with the new entries, and end with what the auditors confirm."""
 
     def __init__(self, person: Person):
         self._person, self._auditors, self._own = person, Confirming(person), OwnNames(person)
 
     def _begun(self) -> Agreement:
         self._person.follow()
-        return self._auditors.agreed()
+        return self._auditors.agreed(self._own.clients)
 
     def _ended(self, agreement: Agreement) -> None:
         """Tells what the auditors confirm, and drops the entries that all of them have."""
-        self._auditors.tell(agreement)
-        chain, clients = self._person.chain, [it.client for it in self._own.names.values()]
-        if agreement.earliest and all(it.head() == chain.head() for it in clients):
-            for it in [chain, *clients]:
-                it.cover(agreement.earliest)
-            self._own.save()
+        self._person.tell(agreement.verdict, **agreement.values)
+        settle(self._person.chain, agreement.heads, agreement.is_enough, self._own.clients)
+        self._own.save()
 
     def compare(self) -> None:
         self._ended(self._begun())
@@ -88,27 +89,28 @@ class Commands:
 
     def trust(self, file: Optional[Path] = None) -> None:
         """Tells the fingerprint of the auditors, and writes their trust document."""
-        person = self._person
-        if not person.auditors:
-            return person.tell("no auditor is named, so there is nothing that two people could compare", UNVERIFIED if file else 0)
-        trust = Trust(person.policy.digest, tuple(person.auditors.values()), person.state["faulty"])
+        person, trust = self._person, self._person.trust
+        if not trust:
+            return person.tell(Verdict.TRUST_UNWRITTEN if file else Verdict.TRUST_NONE)
         if file:
             file.write_bytes(bytes(trust))
-        text = "whoever has the same one lets the same auditors confirm this directory"
-        person.tell(f"your trust document has the fingerprint {trust.fingerprint}: {text}", fingerprint=trust.fingerprint)
+        person.tell(Verdict.TRUST, fingerprint=trust.fingerprint)
 
     def register(self, name: str, key: bytes) -> None:
         self._person.follow()
         is_registered = self._person.tried(lambda: self._own.register(name, key))
         agreement = self._begun()
         if is_registered and self._own.names:
-            self._own.watch(agreement.beside)
+            self._own.watch(agreement)
         self._ended(agreement)
 
     def watch(self) -> None:
         agreement = self._begun()
-        self._own.watch(agreement.beside)
+        self._own.watch(agreement)
         self._ended(agreement)
+
+    def note(self, name: str) -> None:
+        self._own.note(name)
 
     def lookup(self, name: str, wanted: Optional[bytes] = None) -> None:
         """Tells a contact's key. `wanted` is the key that the owner has told."""
@@ -122,49 +124,56 @@ class Commands:
         """Tells the key that the latest confirmed epoch shows, and accepts it unless it takes the place of another one without the
         owner's word. Of an own name the latest epoch counts."""
         person, own, seen = self._person, self._own.names.get(name), self._person.state["seen"].get(name)
-        # An epoch that was confirmed once stays so, also while the auditors are late.
-        epochs = [] if own or agreement.epoch is None else [agreement.epoch, *([epoch_of(seen["reply"])] if seen else [])]
-        found, reply = person.look(name, max(epochs, default=None))
-        value, status, change = found.key, ALARM, person.judge(name, found.key, reply)
-        before, key = (None if it is None else key_text(it) for it in (seen and bytes.fromhex(seen["value"]), value))
+        is_by_quorum = agreement.verdict is Verdict.CONFIRMED and not own
+        # What was accepted is not taken from an earlier epoch than before.
+        epochs = [person.chain.confirmed, seen and epoch_of(seen["reply"])] if is_by_quorum else []
+        found, reply = person.look(name, max(filter(None, epochs), default=None))
+        change, is_verified = person.judge(name, found.key, reply), wanted is not None or bool(seen and seen["verified"])
+        by = Verdict.FEW if is_by_quorum and not person.chain.is_relied(found) else agreement.verdict
+        verdict = self._judged(name, found.key, change, wanted)
+        if verdict is Verdict.KEY_NOT_YOURS:
+            self._own.keep(name, found.key, reply)
+        if verdict in _UNCONFIRMED and by.status == WELL:
+            person.accept(name, found.key or b"", reply, is_verified)
+        elif verdict in _UNCONFIRMED:
+            verdict = _UNCONFIRMED[verdict]
+        before, key = (None if it is None else key_text(it) for it in (seen and bytes.fromhex(seen["value"]), found.key))
+        told: dict[str, Any] = {"name": name, "epoch": found.epoch, "key": key, "before": before, "change": change and change.value}
+        person.tell(verdict, by=by, is_verified=is_verified, **told)
+
+    def _judged(self, name: str, value: Optional[bytes], change: Optional[Change], wanted: Optional[bytes]) -> Verdict:
+        """Returns the verdict on the key of a name. `change` is what it is to the key before, None if none was accepted."""
+        own = self._own.names.get(name)
         if own and value not in (own.value or None, own.next):
-            self._own.keep(name, value, reply)
-            text = f"{no_key_or(key)}, which is not yours: tell all who use it"
-        elif value is None:
-            text = f'no key any more, and no directory removes a name. Its key was "{before}"' if seen else "no key"
-            status = ALARM if seen or wanted else ABSENT
-        elif change is Change.UNVOUCHED:
-            text = f'the key "{key}", and the owner of the key before, "{before}", did not sign the change: don\'t use it'
-        elif wanted is not None and bare(value) != wanted:
-            text = f'another key, "{key}": don\'t use it'
-        elif change is Change.UNKNOWN and wanted is None:
-            text = f'the key "{key}" in place of "{before}", and nobody vouches for that: ask the owner, and then verify it'
-        else:
-            is_verified, status = wanted is not None or bool(seen and seen["verified"]), 0 if agreement.is_enough else UNVERIFIED
-            if agreement.is_enough:
-                person.accept(name, value, reply, is_verified)
-            text = f'the key "{key}"' + f' in place of "{before}", and its owner signed the change' * (change is Change.VOUCHED)
-            text += ". You have not verified it yet" * (not is_verified)
-        members = {"name": name, "epoch": found.epoch, "key": key, "before": before, "change": change and change.value}
-        person.tell(f"{shown(name)} has {text} (epoch {found.epoch}{agreement.beside})", status, **members)
+            return Verdict.KEY_NOT_YOURS
+        if value is None and change:
+            return Verdict.KEY_GONE
+        if value is None:
+            return Verdict.KEY_ABSENT if wanted is None else Verdict.KEY_LACKING
+        if change is Change.UNVOUCHED:
+            return Verdict.KEY_UNVOUCHED
+        if wanted is not None and bare(value) != wanted:
+            return Verdict.KEY_OTHER
+        if change is Change.UNKNOWN and wanted is None:
+            return Verdict.KEY_UNKNOWN
+        return Verdict.KEY_VOUCHED if change is Change.VOUCHED else Verdict.KEY
 
     def evidence(self) -> None:
         """Tells all that was kept, with what convicts the directory for anyone who has its policy."""
-        tell = self._person.tell
+        tell, policy = self._person.tell, bytes(self._person.policy).decode()
         for it in self._person.state["found"]:
-            who = f"{shown(it['name'])}: " if "name" in it else ""
-            tell(who + _KINDS[it["kind"]], ALARM, policy=bytes(self._person.policy).decode(), **it)
+            tell(_KINDS[it["kind"]], policy=policy, **it)
             for part in [] if tell.is_json else it["evidence"]:
                 tell.line(f"  {part}")
         if not self._person.state["found"]:
-            tell("nothing was found that convicts the directory")
+            tell(Verdict.FOUND_NOTHING)
 
     def set(self, given: argparse.Namespace) -> None:
         """Changes what `begin` has set. Nothing is asked of the service."""
         person, state = self._person, self._person.state
         auditors = [it for it in state["auditors"] if it[0] not in given.remove_auditor]
         if len(auditors) + len(given.remove_auditor) > len(state["auditors"]):
-            raise Unusable("no auditor has this URL: give one of " + ", ".join(url for url, _ in state["auditors"]))
+            raise Unusable(Verdict.AUDITOR_UNKNOWN, urls=", ".join(url for url, _ in state["auditors"]))
         service, token = given.service or state["service"], token_of(given.token) if given.token else state["token"]
         check_token(service, token)
         auditors, faulty = trusted(given, person.policy, auditors + given.auditor, state["faulty"])
@@ -172,16 +181,11 @@ class Commands:
         check_auditors(person.policy, auditors, faulty, is_alone)
         for name in given.unwatch:
             if name not in self._own.names:
-                raise Unusable(f"{shown(name)} is not watched")
+                raise Unusable(Verdict.OWN_UNWATCHED, name=name)
             state["past"][name] = self._own.names.pop(name).members()
         state |= {"auditors": auditors, "faulty": faulty, "alone": is_alone, "service": service, "token": token}
         self._own.save()
-        names = ", ".join(url for url, _ in auditors) or "none"
-        person.tell(f"the service is {state['service']}, the auditors are {names}, of whom {faulty} may lie")
-
-
-def no_key_or(key: Optional[str]) -> str:
-    return "no key" if key is None else f'the key "{key}"'
+        person.tell(Verdict.SET, service=service, auditors=", ".join(url for url, _ in auditors) or "none", faulty=faulty)
 
 
 def epoch_of(reply: str) -> int:
@@ -202,11 +206,11 @@ def trusted(given: argparse.Namespace, policy: Policy, named: list[list[str]], f
     try:
         trust, urls = Trust.read(given.trust.read_bytes()), {key: url for url, key in named}
     except ValueError as error:
-        raise Unusable(str(error)) from error
+        raise Unusable(Verdict.UNUSABLE, reason=error) from error
     if trust.policy != policy.digest:
-        raise Unusable("the trust document is for another policy: take both from one place")
+        raise Unusable(Verdict.TRUST_OF_OTHER_POLICY)
     if {key for _, key in given.auditor} - set(map(str, trust.auditors)):
-        raise Unusable("an auditor that you named isn't in the trust document")
+        raise Unusable(Verdict.TRUST_LACKS)
     return [[urls.get(str(it), f"https://{it.name}"), str(it)] for it in trust.auditors], trust.faulty
 
 
@@ -214,23 +218,23 @@ def check_auditors(policy: Policy, auditors: Sequence[Sequence[str]], faulty: in
     """Raises `Unusable` for auditors of whom no quorum can be formed."""
     try:
         if len({url_of(url) for url, _ in auditors}) < len(auditors):
-            raise BadNote("an auditor is listed twice")
+            raise Unusable(Verdict.AUDITOR_TWICE)
         if len(auditors) == 1 or not (auditors or is_alone):
-            raise BadNote("name at least two auditors, or give --without-auditors: then nobody notices another chain")
+            raise Unusable(Verdict.AUDITORS_FEW)
         if auditors:
             Trust(policy.digest, tuple(Auditor.read(key) for _, key in auditors), faulty)
     except (ValueError, argparse.ArgumentTypeError) as error:
-        raise Unusable(str(error)) from error
+        raise Unusable(Verdict.UNUSABLE, reason=error) from error
 
 
 def begun(file: StateFile, given: argparse.Namespace) -> dict[str, Any]:
     """The members of a state without entries. It is stored once the service has shown an entry."""
     if file.path.exists():
-        raise Unusable(f"{file.path} is there already: give another --state, or change it by coniks-client set")
+        raise Unusable(Verdict.STATE_THERE, path=file.path)
     try:
         policy, token = Policy.read(given.policy.read_bytes()), token_of(given.token)
     except ValueError as error:
-        raise Unusable(str(error)) from error
+        raise Unusable(Verdict.UNUSABLE, reason=error) from error
     check_token(given.service, token)
     auditors, faulty = trusted(given, policy, given.auditor, 0)
     check_auditors(policy, auditors, faulty, given.without_auditors)
@@ -298,7 +302,7 @@ def parsed(words: Optional[Sequence[str]]) -> argparse.Namespace:
         made[command].add_argument("--faulty", type=int, metavar="N", help="how many auditors may lie (at first: 0)")
         made[command].add_argument("--trust", type=Path, metavar="FILE", help="a trust document, which has auditors and --faulty")
         made[command].add_argument("--token", type=Path, metavar="FILE", help="the token by which the service lets you write")
-    for name in ("register", "lookup", "verify"):
+    for name in ("register", "lookup", "verify", "note"):
         made[name].add_argument("name", type=name_of, metavar="NAME", help="a name")
     for name in ("register", "verify"):
         made[name].add_argument("key", type=key_of, metavar="KEY", help="text, or base64: and bytes in base64")
@@ -320,9 +324,11 @@ def run(given: argparse.Namespace, tell: Telling) -> None:
             words = [given] if given.command == "set" else [vars(given)[it] for it in ("name", "key", "file") if it in given]
             person.tried(lambda: call(*words))
             if person.state["found"] and given.command != "evidence":
-                tell("something was found that you must see: run coniks-client evidence", ALARM)
-    except (OSError, Unusable) as error:
-        tell(str(error), UNVERIFIED)
+                tell(Verdict.FOUND)
+    except Unusable as error:
+        tell(error.verdict, **error.values)
+    except OSError as error:
+        tell(Verdict.UNUSABLE, reason=error)
 
 
 def main(words: Optional[Sequence[str]] = None) -> int:
@@ -335,11 +341,11 @@ def main(words: Optional[Sequence[str]] = None) -> int:
         run(given, tell)
     except BrokenPipeError:
         os.dup2(os.open(os.devnull, os.O_WRONLY), sys.stdout.fileno())
-        return UNVERIFIED
+        return Verdict.UNREAD.status
     except KeyboardInterrupt:
-        return 130
+        return Verdict.INTERRUPTED.status
     except Exception as error:
-        tell(f"this run ended by an error of the program, {type(error).__name__}: {error}", UNVERIFIED)
+        tell(Verdict.PROGRAM, kind=type(error).__name__, reason=error)
     return tell.status
 
 

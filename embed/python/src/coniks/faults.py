@@ -8,7 +8,6 @@ from typing import Any, Optional
 __all__ = [
     "AlreadyOpen",
     "BatchTooLong",
-    "BoardFull",
     "ChildrenDiffer",
     "Closed",
     "Command",
@@ -26,18 +25,21 @@ __all__ = [
     "LogFailed",
     "LogForked",
     "LogRefused",
+    "Malformed",
     "Member",
     "NameLength",
     "NameTaken",
     "NameTwice",
     "NameUnknown",
     "NoDirectory",
+    "NotAbandoned",
     "NotLater",
     "NotOpen",
     "NotPrepared",
     "NotRestoring",
     "NotText",
     "OtherIndex",
+    "OtherUpdate",
     "Overtaken",
     "ProgramFailed",
     "ProviderError",
@@ -135,12 +137,16 @@ class EpochNotLater(Fault):
     said = "the epoch isn't later than the latest one"
 
 
-class BoardFull(Fault):
-    said = "the directory has 65,536 epochs"
-
-
 class NotPrepared(Fault):
     said = "no update is pending"
+
+
+class NotAbandoned(Fault):
+    said = "the line abandons another update than the pending one"
+
+
+class OtherUpdate(Fault):
+    said = "the line names another body or link than its own"
 
 
 class UnknownEpoch(Fault):
@@ -159,6 +165,10 @@ class Version(Fault):
     said = "the entry has neither version 1 nor 2"
 
 
+class Malformed(Fault):
+    said = "the epoch before the entry's is 0, and its previous link isn't zeros"
+
+
 class RootDiffers(Fault):
     said = "the root of the bindings isn't that of the entry"
 
@@ -167,9 +177,11 @@ BY_NAME: dict[str, type[Fault]] = {
     it.__name__: it
     for it in [
         Json, Command, Member, NotOpen, AlreadyOpen, BatchTooLong, NameLength, KeyLength, NameTwice, NameTaken, NameUnknown,
-        OtherIndex, IndexClash, EpochNotLater, BoardFull, NotPrepared, UnknownEpoch, NotRestoring, NotLater, Version, RootDiffers,
+        OtherIndex, IndexClash, EpochNotLater, NotAbandoned, NotPrepared, UnknownEpoch, NotRestoring, NotLater, Version, Malformed, RootDiffers,
     ]
 }  # fmt: skip
+# The error of a replay has this name.
+BY_NAME["ReplayDiffers"] = OtherUpdate
 
 
 class EpochSpent(ProviderError):

@@ -1,11 +1,14 @@
 """Lets a signing key sign one chain: a `sign` for `coniks.provider` that keeps a record of the last body it signed.
 
     guard = Guard("names.guard", sign)
-    Provider("provider", index, guard, log, policy=policy)
+    Provider(Settings("provider", index, policy), guard, log)
 
 Two signed bodies convict a directory if neither continues the other. A log from an old backup makes such a body, and so does a
 second service. The guard compares each body with its record before the key is used, and raises `BodyRefused`. Store the record
 apart from the log and its backups. A restored record is behind the key, so never restore one.
+
+Each step on the record is one of the C library, of which it is proved that the key signs one chain. Opening a guard raises
+ImportError without it (`help(coniks)`).
 
 A new directory begins with `new_directory=True`, once. A directory that ran without a guard passes its latest entry as `known`.
 
@@ -23,24 +26,21 @@ from __future__ import annotations
 
 import errno
 import fcntl
-import hashlib
 import io
 import os
-import re
 import stat
 import time
-from dataclasses import dataclass, replace
 from typing import Callable, Optional
 
 from . import BODY_LENGTH, ENTRY_LENGTH
 from ._files import Path, identity_at, identity_of, rewrite, sync_folder
+from ._guarding import Record, Refusal, Said, StepRefused, epochs, load
 from ._lines import SIGNATURE_LENGTH, sized
 
 __all__ = ["BodyAbandoned", "BodyRefused", "BodySigned", "Guard", "GuardError", "RecordFailed"]
 
 # How long a call waits for another one that replaces the record.
 _LOCK_SECONDS = 10
-_RECORD = re.compile("coniks-guard 1\n(?:signed ([0-9a-f]{418})\n)?(?:asked ([0-9a-f]{290})\n)?((?:abandoned [0-9a-f]{290}\n)*)")
 
 
 class GuardError(Exception):
@@ -63,80 +63,27 @@ class RecordFailed(GuardError):
     """The record could not be read or written, or isn't one. If it was written, the change may be stored."""
 
 
-def _epochs(body: bytes) -> tuple[int, int]:
-    """The epoch before a body, and that of the body. Both are 0 if there is none."""
-    return int.from_bytes(body[9:17], "big"), int.from_bytes(body[1:9], "big")
-
-
-def _is_after_same(body: bytes, other: bytes) -> bool:
-    """Whether two bodies follow the same entry."""
-    return (body[9:17], body[49:81]) == (other[9:17], other[49:81])
-
-
-def _is_malformed(body: bytes) -> bool:
-    """Whether no chain has a body."""
-    before, epoch = _epochs(body)
-    return body[0] not in (1, 2) or epoch <= before or (before == 0 and any(body[49:81]))
-
-
-@dataclass(frozen=True)
-class _Record:
-    """The last entry signed, the body that is open, each empty if there is none, and the bodies that are abandoned, after that entry
-    or after the one before it. docs/FORMATS.md defines its text."""
-
-    signed: bytes = b""
-    asked: bytes = b""
-    abandoned: tuple[bytes, ...] = ()
-
-    def __str__(self) -> str:
-        named = [("signed", self.signed), ("asked", self.asked), *(("abandoned", it) for it in self.abandoned)]
-        return "coniks-guard 1\n" + "".join(f"{name} {it.hex()}\n" for name, it in named if it)
-
-    def settles(self, body: bytes) -> bool:
-        """Whether a body is signed or abandoned."""
-        return self.signed[:BODY_LENGTH] == body or body in self.abandoned
-
-    def refusal(self, body: bytes, may_begin: bool) -> Optional[str]:
-        """Why the key must not sign a body, and what to do next. None if it may."""
-        why = self._refusal_after(body) if self.signed else self._refusal_of_first(body, may_begin)
-        if not why and self.asked not in (b"", body):
-            why = f"another body is open, of epoch {_epochs(self.asked)[1]}: put back the log that has it, or abandon it first"
-        return "no chain has such a body: look what made it" if _is_malformed(body) else why
-
-    def _refusal_of_first(self, body: bytes, may_begin: bool) -> Optional[str]:
-        if before := _epochs(body)[0]:
-            return f"it follows epoch {before}, and nothing is recorded as signed: name the directory's record, or pass known="
-        return None if may_begin else "it begins a directory: pass new_directory=True if this key has signed nothing"
-
-    def _refusal_after(self, body: bytes) -> Optional[str]:
-        before, last = _epochs(body)[0], _epochs(self.signed)[1]
-        cases = [
-            (before == 0, f"it begins a directory, and this key has signed epoch {last}: make a new directory under a new key"),
-            (
-                body[113:] != self.signed[113:BODY_LENGTH],
-                "it has another policy digest than what this key has signed: open the directory with its own key and policy",
-            ),
-            (
-                before < last,
-                f"it follows epoch {before}, and this key has signed epoch {last}: the log is from an old backup, or another"
-                f" service uses this key: put back the log that has epoch {last}",
-            ),
-            (
-                before > last,
-                f"it follows epoch {before}, and the last recorded one is {last}: the record is from an old backup: put back the"
-                " latest one, or make another one with known=",
-            ),
-            (
-                body[49:81] != hashlib.sha256(b"S" + self.signed).digest(),
-                f"it follows another entry of epoch {last} than this key has signed: put back the log that has the signed one",
-            ),
-            (body[0] < self.signed[0], "its version is lower than that of the entry before: look what made it"),
-            (
-                body[0] == 1 and body[81:113] != self.signed[81:113],
-                "its nonce isn't that of the entry before, as version 1 needs: look what made it",
-            ),
-        ]
-        return next((text for is_so, text in cases if is_so), None)
+def _why(refusal: Refusal, record: Record, body: bytes) -> str:
+    """Why the key must not sign a body, and what to do next."""
+    before, last, open_one = epochs(body)[0], epochs(record.signed)[1], epochs(record.asked)[1]
+    return {
+        Refusal.MALFORMED: "no chain has such a body: look what made it",
+        Refusal.NOTHING_RECORDED: f"it follows epoch {before}, and nothing is recorded as signed: name the directory's record, or pass"
+        " known=",
+        Refusal.BEGINS_UNASKED: "it begins a directory: pass new_directory=True if this key has signed nothing",
+        Refusal.BEGINS_AGAIN: f"it begins a directory, and this key has signed epoch {last}: make a new directory under a new key",
+        Refusal.OTHER_POLICY: "it has another policy digest than what this key has signed: open the directory with its own key and"
+        " policy",
+        Refusal.LOG_BEHIND: f"it follows epoch {before}, and this key has signed epoch {last}: the log is from an old backup, or another"
+        f" service uses this key: put back the log that has epoch {last}",
+        Refusal.RECORD_BEHIND: f"it follows epoch {before}, and the last recorded one is {last}: the record is from an old backup: put"
+        " back the latest one, or make another one with known=",
+        Refusal.OTHER_LINK: f"it follows another entry of epoch {last} than this key has signed: put back the log that has the signed"
+        " one",
+        Refusal.VERSION_BACK: "its version is lower than that of the entry before: look what made it",
+        Refusal.NONCE_CHANGED: "its nonce isn't that of the entry before, as version 1 needs: look what made it",
+        Refusal.OTHER_OPEN: f"another body is open, of epoch {open_one}: put back the log that has it, or abandon it first",
+    }[refusal]
 
 
 class Guard:
@@ -173,13 +120,14 @@ class Guard:
     ) -> None:
         if new_directory and known is not None:
             raise ValueError("a new directory has no known entry: pass one of the two")
+        load()
         self._sign, self._verify, self._may_begin = sign, verify, new_directory
         if self._parsed(self._read()).signed and new_directory:
             raise BodyRefused(f"{self} has signed epochs: open it without new_directory, or make a new directory under a new key")
         if known is not None:
             entry = sized(known, ENTRY_LENGTH, "the known entry")
             self._check_signature(entry[:BODY_LENGTH], entry[BODY_LENGTH:])
-            self._change(lambda it: self._knowing(it, entry))
+            self._change(lambda it: self._adopting(it, entry))
 
     def __str__(self) -> str:
         return f"the record {self._path}"
@@ -189,21 +137,22 @@ class Guard:
         stored signature, and the key isn't used unless `verify` refuses that signature. Raises `BodyRefused` for another body, and
         what `sign` raises."""
         body = sized(body, BODY_LENGTH, "a body")
-        record = self._change(lambda it: self._asking(it, body))
-        if not record.settles(body) or self._is_wrong(record, body):
+        said, stored = self._change(lambda it: self._asking(it, body)).answer(body)
+        if said is Said.UNSETTLED or self._is_wrong(body, stored):
             signature = sized(self._sign(body), SIGNATURE_LENGTH, "the signature")
             self._check_signature(body, signature)
-            record = self._change(lambda it: self._signing(it, body, signature))
-        if body in record.abandoned:
-            raise BodyAbandoned(f"the body of epoch {_epochs(body)[1]} was abandoned: commit under a later epoch")
+            said, stored = self._change(lambda it: self._signing(it, body, signature)).answer(body)
+        if said is not Said.SIGNED:
+            raise BodyAbandoned(f"the body of epoch {epochs(body)[1]} was abandoned: commit under a later epoch")
         self._may_begin = False
-        return record.signed[BODY_LENGTH:]
+        return stored
 
     def abandon(self, body: bytes) -> None:
         """Refuses a body for ever. Raises `BodySigned` if a signature of it may have been returned."""
         body = sized(body, BODY_LENGTH, "a body")
-        if body not in self._change(lambda it: self._abandoning(it, body)).abandoned:
-            raise BodySigned(f"the body of epoch {_epochs(body)[1]} is signed: ask for its signature again, and install it")
+        said, _ = self._change(lambda it: self._abandoning(it, body)).answer(body)
+        if said is not Said.ABANDONED:
+            raise BodySigned(f"the body of epoch {epochs(body)[1]} is signed: ask for its signature again, and install it")
 
     def signed(self) -> Optional[bytes]:
         """Returns the last entry signed, 209 bytes. None if there is none."""
@@ -217,63 +166,64 @@ class Guard:
         """Has signatures verified by this function from now on, unless one was passed. A provider passes its own."""
         self._verify = self._verify or verify
 
-    def _is_wrong(self, record: _Record, body: bytes) -> bool:
+    def _is_wrong(self, body: bytes, stored: bytes) -> bool:
         """Whether the last signed body is stored with a signature that isn't valid, as of another key. The same body convicts nobody
         if it is signed twice."""
-        signed, signature = record.signed[:BODY_LENGTH], record.signed[BODY_LENGTH:]
-        return signed == body and self._verify is not None and not self._verify(body, signature)
+        return bool(stored) and self._verify is not None and not self._verify(body, stored)
 
     def _check_signature(self, body: bytes, signature: bytes) -> None:
         if self._verify and not self._verify(body, signature):
-            raise GuardError(f"the signature of epoch {_epochs(body)[1]} isn't valid, and isn't stored: look which key signs")
+            raise GuardError(f"the signature of epoch {epochs(body)[1]} isn't valid, and isn't stored: look which key signs")
 
-    def _knowing(self, record: _Record, entry: bytes) -> _Record:
-        if record.signed == entry:
-            return record
-        if record != _Record():
-            raise BodyRefused(f"{self} has other bodies than the known one: open it without known")
-        if _is_malformed(entry):
-            raise BodyRefused("no chain has the known entry: pass the directory's latest one")
-        return _Record(entry)
+    def _refused(self, refusal: Refusal, record: Record, body: bytes) -> BodyRefused:
+        return BodyRefused(f"{self} refuses the body of epoch {epochs(body)[1]}: {_why(refusal, record, body)}")
 
-    def _asking(self, record: _Record, body: bytes) -> _Record:
-        if record.settles(body):
-            return record
-        if why := record.refusal(body, self._may_begin):
-            raise BodyRefused(f"{self} refuses the body of epoch {_epochs(body)[1]}: {why}")
-        return replace(record, asked=body)
+    def _adopting(self, record: Record, entry: bytes) -> Record:
+        try:
+            return record.adopt(entry)
+        except StepRefused as error:
+            if error.refusal is Refusal.NO_ENTRY:
+                raise BodyRefused("no chain has the known entry: pass the directory's latest one") from None
+            raise BodyRefused(f"{self} has other bodies than the known one: open it without known") from None
 
-    def _signing(self, record: _Record, body: bytes, signature: bytes) -> _Record:
-        if self._is_wrong(record, body):
-            return replace(record, signed=body + signature)
-        if record.settles(body):
-            return record
-        if record.asked != body:
-            epoch = _epochs(body)[1]
-            raise BodyRefused(f"{self} changed while epoch {epoch} was signed: it was abandoned, or another service uses this key")
-        # Those of the epoch before can't be asked for any more.
-        return _Record(body + signature, abandoned=tuple(it for it in record.abandoned if _is_after_same(it, body)))
+    def _asking(self, record: Record, body: bytes) -> Record:
+        try:
+            return record.ask(body, self._may_begin)
+        except StepRefused as error:
+            raise self._refused(error.refusal, record, body) from None
 
-    def _abandoning(self, record: _Record, body: bytes) -> _Record:
-        (before, epoch), (_, last) = _epochs(body), _epochs(record.signed)
-        if record.settles(body):
-            return record
-        if before < last:
-            raise BodySigned(f"the body of epoch {epoch} may be signed, since {self} goes on to epoch {last}: put back that log")
-        if before > last:
-            raise BodyRefused(f"{self} ends with epoch {last}, before the body to abandon: put back the latest record")
-        return replace(record, asked=b"" if record.asked == body else record.asked, abandoned=(*record.abandoned, body))
+    def _signing(self, record: Record, body: bytes, signature: bytes) -> Record:
+        _, stored = record.answer(body)
+        try:
+            return record.sign(body, signature, self._is_wrong(body, stored))
+        except StepRefused as error:
+            if error.refusal is Refusal.OTHER_OPEN:
+                raise self._refused(error.refusal, record, body) from None
+            epoch = epochs(body)[1]
+            raise BodyRefused(
+                f"{self} changed while epoch {epoch} was signed: it was abandoned, or another service uses this key"
+            ) from None
 
-    def _parsed(self, text: Optional[str]) -> _Record:
-        if text is None:
-            return _Record()
-        found = _RECORD.fullmatch(text)
-        if not found:
+    def _abandoning(self, record: Record, body: bytes) -> Record:
+        try:
+            return record.abandon(body)
+        except StepRefused as error:
+            epoch, last = epochs(body)[1], epochs(record.signed)[1]
+            if error.refusal is Refusal.RECORD_OLD:
+                raise BodyRefused(
+                    f"{self} ends with epoch {last}, before the body to abandon: put back the latest record"
+                ) from None
+            raise BodySigned(
+                f"the body of epoch {epoch} may be signed, since {self} goes on to epoch {last}: put back that log"
+            ) from None
+
+    def _parsed(self, text: Optional[str]) -> Record:
+        record = Record() if text is None else Record.read(text)
+        if record is None:
             raise RecordFailed(f"{self} was cut, changed or never a record of a guard: find out why, and put back the latest one")
-        signed, asked = (bytes.fromhex(it or "") for it in found.group(1, 2))
-        return _Record(signed, asked, tuple(bytes.fromhex(it.split()[1]) for it in found[3].splitlines()))
+        return record
 
-    def _change(self, step: Callable[[_Record], _Record]) -> _Record:
+    def _change(self, step: Callable[[Record], Record]) -> Record:
         """Stores what a step makes of the record, and returns it. It is stored also if it is the same, since another process may
         have been killed before it was durable."""
         while True:
@@ -282,7 +232,7 @@ class Guard:
             if self._swap(text, str(record)):
                 return record
 
-    def _durable(self) -> _Record:
+    def _durable(self) -> Record:
         """Returns the record once it is durable. A process that replaced it may have been killed before that, and what a power failure
         takes back must not be returned."""
         record = self._parsed(self._read())

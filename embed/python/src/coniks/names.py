@@ -25,13 +25,17 @@ def _folded(character: str) -> str:
     return character.upper().lower()
 
 
-def canonical(text: str) -> str:
-    """Returns the one form of a name: Unicode NFC, without case. It has 1 to 255 bytes of UTF-8. Raises `BadName` for text with a lone
-    surrogate, a control character or an unassigned code point."""
+def _canonical(text: str) -> str:
     if any(unicodedata.category(it) in _REFUSED for it in text):
         raise BadName("a name is Unicode without control characters, unassigned code points and lone surrogates")
     # Canonical caseless matching (Unicode, D145), and then NFC.
-    name = unicodedata.normalize("NFC", "".join(map(_folded, unicodedata.normalize("NFD", text))))
+    return unicodedata.normalize("NFC", "".join(map(_folded, unicodedata.normalize("NFD", text))))
+
+
+def canonical(text: str) -> str:
+    """Returns the one form of a name: Unicode NFC, without case. It has 1 to 255 bytes of UTF-8. Raises `BadName` for text with a lone
+    surrogate, a control character or an unassigned code point."""
+    name = text.lower() if text.isascii() and text.isprintable() else _canonical(text)
     if not 1 <= len(name.encode()) <= LONGEST:
         raise BadName(f"a name has 1 to {LONGEST} bytes in its form NFC without case")
     return name

@@ -1,6 +1,6 @@
 """Runs a CONIKS key directory: the program `provider` as a child process, with your own indices and signatures.
 
-    with FileLog("names.log") as log, Provider("provider", index, sign, log, policy=policy) as provider:
+    with FileLog("names.log") as log, Provider(Settings("provider", index, policy), sign, log) as provider:
         epoch = provider.commit(provider.epoch_now(), [Register("alice", b"key")])
         found = provider.lookup("alice")
 
@@ -15,11 +15,11 @@ there: `signed()` and `asked()` return the last entry that was signed, and the b
 `abandon(body)` refuses a body for ever.
 
 The directory is in the child's memory, and the log is its store. Each accepted line is appended to the log, and a new child
-replays it. So the log is a script: `provider < names.log` prints the same answers. `prepare` lines have the member `body`
-beside those of docs/FORMATS.md, and `abandons`, the body of the update that they replace; `install` lines have the member
-`link`. The `open` line has `log`, the format, 2, and may have `vrf`, the SHA-256 of the VRF's public key. The program ignores
-these; a replay is compared with them. A log without `log` goes on as it is: in it a `prepare` line may replace an update without
-`abandons`.
+replays it. So the log is a script: `provider < names.log` prints the same answers, and `provider --replay` the latest epoch, or the
+first line that is refused. A line is stored as the program returns it, so with what a replay is compared with: `prepare` lines have
+`body`, and `abandons`, the body of the update that they replace; `install` lines have `link`. The `open` line has `log`, the
+format, 2, and may have `vrf`, the SHA-256 of the VRF's public key. A log without `log` goes on as it is: in it a `prepare` line may
+replace an update without `abandons`.
 
 `compact` stores a snapshot of one epoch beside the log and forgets the epochs before it. A start then restores the snapshot, and
 replays the lines after it. Each entry of the snapshot must follow the one before it, and its bindings must have the root of the
@@ -52,20 +52,19 @@ after which nothing is started and nothing changed before `restart`.
 from __future__ import annotations
 
 import time
-from typing import Callable, Iterable, Iterator, Optional, Sequence, TypeVar, Union
+from typing import Callable, Iterable, Iterator, Optional, TypeVar
 
 from . import ENTRY_LENGTH, BODY_LENGTH, Head, _number, faults
-from ._directory import Directory, check_writable, counted, digest_of
-from ._engine import Engine, Record, Setting, epoch_of
+from ._directory import Directory, check_writable
+from ._engine import Engine, Record, Settings, epoch_of
 from ._files import cause
 from ._host import Evidence, Host
-from ._lines import SIGNATURE_LENGTH, Change, Epoch, Index, Latest, Lookup, Operation, Pending, Register, command, prepare_line
-from ._lines import sized
+from ._lines import SIGNATURE_LENGTH, Change, Epoch, Latest, Lookup, Operation, Pending, Register, prepare_line, sized
 from ._restoring import Restoring
 from ._snapshot_lines import Point, entries_in
 from .faults import *
 from .guard import BodyAbandoned, BodyRefused, BodySigned, Guard
-from .log import FileLog, Log, Path, SharedLog, SnapshotLog
+from .log import FileLog, Log, SharedLog, SnapshotLog
 from .policy import Policy
 
 __all__ = [
@@ -80,6 +79,7 @@ __all__ = [
     "Policy",
     "Provider",
     "Register",
+    "Settings",
     "entries",
 ]
 __all__ += faults.__all__
@@ -98,18 +98,7 @@ _WEEK = 7 * 86400
 class Provider(Directory):
     """A directory that the program `provider` keeps, with its log.
 
-    `program` is the program's path, or its path and first arguments. `log` isn't closed by the provider. `create` makes a
-    directory: the log must have no line. `policy` is the digest in each entry, 32 bytes, or the `Policy` whose digest it is, and
-    `nonce` that of the first epoch: 32 random bytes if it is None. `vrf_public_key` is the public key of the VRF, whose SHA-256
-    the log keeps. These are in the log from the first start on; later starts raise `LogFailed` if one is given that isn't the log's.
-
-    `verify(body, signature)` returns whether a signature is valid, and is called before one is installed, and for the entry of a
-    snapshot: the program verifies none. `workers` and `depth` are the program's options. `timeout` is how many seconds the
-    program may take for one answer; without it there is no limit. A snapshot may take it for each 4,096 names.
-
-    `children` is how many children there are, 1 or 2. Two take each line one after another, and lookups go to the one that isn't
-    taking it, so that they don't wait while a batch is built. Two take twice the memory, and a commit twice the program's time. If
-    one ends, the other one goes on, and others are started beside it. If two answers to a line differ, `ChildrenDiffer` is raised.
+    `settings` are what its replicas take too. `log` isn't closed by the provider. `create` makes a directory: the log must have no line.
 
     `head` is one that an auditor, a client or a replica saw. A log that ends before it raises `LogBehind`, one with another entry
     `LogForked`: pass it after a log was restored. A log that lacks what the signer's record has raises the same errors, whose
@@ -123,29 +112,16 @@ class Provider(Directory):
 
     def __init__(
         self,
-        program: Union[Path, Sequence[str]],
-        index: Index,
+        settings: Settings,
         sign: Sign,
         log: Log,
         *,
-        policy: Union[bytes, Policy],
-        nonce: Optional[bytes] = None,
-        vrf_public_key: Optional[bytes] = None,
-        verify: Optional[Verify] = None,
-        workers: Optional[int] = None,
-        depth: Optional[int] = None,
-        timeout: Optional[float] = None,
-        children: int = 1,
         create: bool = False,
         head: Optional[Head] = None,
-        check_indices: bool = True,
         sign_pending: bool = True,
     ):
-        first = None if nonce is None else sized(nonce, 32, "the nonce")
-        words, digest = command(program, workers, depth), digest_of(policy)
-        setting = Setting(words, timeout, log, digest, first, vrf_public_key, verify, counted(children))
-        super().__init__(Host(setting), index, log, check_indices, policy)
-        self._set_signer(sign, verify)
+        super().__init__(Host(settings, log), log)
+        self._set_signer(sign, settings.verify)
         try:
             self._change(lambda: self._start(lambda: self._first(create), sign_pending, head))
         except BaseException:
@@ -156,7 +132,7 @@ class Provider(Directory):
     def _over(cls, directory: Directory, sign: Sign, verify: Optional[Verify]) -> Provider:
         """A provider that goes on with the child of another directory."""
         provider = cls.__new__(cls)
-        Directory.__init__(provider, directory._host, directory._index, directory._log, directory._is_checking, directory._policy)
+        Directory.__init__(provider, directory._host, directory._log)
         provider._set_signer(sign, verify)
         provider._host.verify_by(verify)
         return provider
@@ -185,8 +161,8 @@ class Provider(Directory):
     #
     # The log drops a line that a crash has cut. A line whose append failed may be in the log or not: both are rows of this list.
     # So after such an error nothing is added before a restart (`_broken`), and lookups go on. If the log refused the line, it is
-    # not in the log: after 1 the child takes back what was pending before, which is still abandoned if it was (`_abandoned` has
-    # its body), and after 4 the same line is appended again before anything else.
+    # not in the log: after 1 the child drops the update (`withdraw`), and takes back what was pending before, which is still
+    # abandoned if it was (`_abandoned` has its body), and after 4 the same line is appended again before anything else.
     #
     # All steps are made by one thread, which no signal interrupts. `changing` is held from 1 to 2 and from 4 to 5, so that a child
     # which ends is started again only when the engine says what the log has. Another child may have replayed what another
@@ -293,7 +269,7 @@ class Provider(Directory):
         """Checks that the signer's record has the latest entry. Without it a guard refuses each body, so none is prepared."""
         if not hasattr(self._sign, "signed"):
             return
-        signed, latest = recorded(self._sign).signed, self._host.known.latest.epoch
+        signed, latest = _of_record(self._sign.signed, ENTRY_LENGTH, _SIGNED), self._host.known.latest.epoch
         last = epoch_of(signed) if signed else 0
         if last < latest:
             raise RecordBehind(
@@ -521,6 +497,7 @@ class Provider(Directory):
 
 
 _ABANDONED = "the signer has abandoned the body of the pending update, and won't sign it: commit under a later epoch"
+_SIGNED = "the signed entry"
 _STARTED_AGAIN = (
     "the program was started again meanwhile: the update is installed if its epoch is the latest one, and pending if pending has it"
 )
@@ -530,12 +507,15 @@ def recorded(sign: Sign) -> Record:
     """What a signer's record has, nothing if the signer has no record."""
     if not hasattr(sign, "signed"):
         return Record()
+    signed = _of_record(sign.signed, ENTRY_LENGTH, _SIGNED)
+    return Record(signed, _of_record(sign.asked, BODY_LENGTH, "the body that was asked for") if hasattr(sign, "asked") else None)
+
+
+def _of_record(read: Callable[[], Optional[bytes]], size: int, what: str) -> Optional[bytes]:
+    """What a call of a signer's record returns."""
     try:
-        signed, asked = sign.signed(), sign.asked() if hasattr(sign, "asked") else None
-        return Record(
-            None if signed is None else sized(signed, ENTRY_LENGTH, "the signed entry"),
-            None if asked is None else sized(asked, BODY_LENGTH, "the body that was asked for"),
-        )
+        found = read()
+        return None if found is None else sized(found, size, what)
     except Exception as error:
         raise SignerFailed(f"the signer's record can't be read: {error}. Repair it, and try again") from error
 

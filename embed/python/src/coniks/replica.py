@@ -1,6 +1,6 @@
 """A replica of a key directory: it follows a log that a `Provider` writes, and answers the same lookups.
 
-    with Replica(log, "provider", index, policy=policy) as replica:
+    with Replica(Settings("provider", index, policy), log) as replica:
         found = replica.lookup("alice")
 
 A replica has a child of its own, replays each line that the log gets, and compares the child's answer with the logged one. It
@@ -14,20 +14,18 @@ from __future__ import annotations
 import threading
 import time
 from dataclasses import dataclass
-from typing import Optional, Sequence, Union
+from typing import Optional
 
 from . import Head
-from ._directory import Directory, check_writable, counted, digest_of
-from ._engine import Setting
+from ._directory import Directory, check_writable
+from ._engine import Settings
 from ._host import Host
-from ._lines import Index, command
 from ._snapshot_lines import snapshot_in
 from .faults import LinesDropped, LogForked, OtherIndex, ProviderError, ReplayDiffers, SignerFailed
-from .log import Path, SharedLog
-from .policy import Policy
+from .log import SharedLog
 from .provider import Provider, Sign, Verify, recorded
 
-__all__ = ["Lag", "Replica"]
+__all__ = ["Lag", "Replica", "Settings"]
 
 
 @dataclass(frozen=True)
@@ -43,32 +41,21 @@ class Lag:
 class Replica(Directory):
     """A directory that follows a log. Starting replays the log; then a thread follows it.
 
-    The arguments are those of `Provider` without the signer, `children` too. `verify` is called for the entry of a snapshot. If the child's answer
-    isn't the logged one, or the log lost lines, the replica stays at the epoch that it has: lookups go on, `lag().error` is the
-    cause, `evidence` has both chains, and `follow` and `promote` raise `RestartNeeded` until `restart` returns. If the log can't be
-    read, or has a line that no provider writes, the replica follows again once it can. If the lines that it needs were dropped, it
-    starts again from the snapshot by itself.
+    The settings are those of its provider. `verify` is called for the entry of a snapshot. If the child's answer isn't the logged
+    one, or the log lost lines, the replica stays at the epoch that it has: lookups go on, `lag().error` is the cause, `evidence` has
+    both chains, and `follow` and `promote` raise `RestartNeeded` until `restart` returns. If the log can't be read, or has a line that
+    no provider writes, the replica follows again once it can. If the lines that it needs were dropped, it starts again from the
+    snapshot by itself.
     """
 
     def __init__(
         self,
+        settings: Settings,
         log: SharedLog,
-        program: Union[Path, Sequence[str]],
-        index: Index,
         *,
-        policy: Union[bytes, Policy],
-        vrf_public_key: Optional[bytes] = None,
-        workers: Optional[int] = None,
-        depth: Optional[int] = None,
-        timeout: Optional[float] = None,
-        children: int = 1,
         head: Optional[Head] = None,
-        check_indices: bool = True,
-        verify: Optional[Verify] = None,
     ):
-        words, digest = command(program, workers, depth), digest_of(policy)
-        setting = Setting(words, timeout, log, digest, None, vrf_public_key, verify, counted(children))
-        super().__init__(Host(setting), index, log, check_indices, policy)
+        super().__init__(Host(settings, log), log)
         self._shared, self._lines, self._since = log, 0, time.monotonic()
         self._error: Optional[Exception] = None
         self._promoted: Optional[Provider] = None

@@ -30,7 +30,7 @@ import evidence
 from nacl.signing import SigningKey
 from sources import FORKS, WORLD, Source, dripping
 from coniks import Head, Policy, _http, audit
-from coniks.audit import Audit, Unusable, main
+from coniks.audit import Audit, Shelf, Unusable, main
 from coniks.notes import Auditor, Note, cosign, read_note, text_of
 
 POLICY = Policy.read(client_world.POLICY.encode())
@@ -125,6 +125,11 @@ def test_equivocation(room: Room, kind: str, monkeypatch: pytest.MonkeyPatch) ->
         source.entries = WORLD.entries()
         monkeypatch.setattr(time, "time", lambda: NOW + 5)
         assert room.once(source.url) == 1 and (room.read("note"), room.read("alarm")) == (note, alarm)
+        source.entries = [
+            *WORLD.entries(1, 2, 3, 5),
+            FORKS["the last entry"][6] if kind != "the last entry" else FORKS["an earlier entry"][6],
+        ]
+        assert room.once(source.url) == 1 and (room.read("note"), room.read("alarm")) == (note, alarm), "the first one tells most"
 
 
 def test_signed_but_wrong(room: Room) -> None:
@@ -283,6 +288,142 @@ def test_old_and_changed_folders(room: Room) -> None:
         with pytest.raises(Unusable, match="another process"):
             both = [room.opened(), room.opened()]
             assert not both
+
+
+def grown() -> tuple[World, World]:
+    """The directory, and the same one with another signature of epoch 5, over which it goes on."""
+    world, again = World(client_world.BATCHES), World(client_world.BATCHES)
+    again.sign_again(5)
+    return world, again
+
+
+def test_signed_again(room: Room) -> None:
+    """The next entry may follow another signature of the latest one: the auditor goes on with that, and cosigns one head of each epoch."""
+    world, again = grown()
+    with Source(world.entries(1, 2, 3, 5)) as source:
+        assert room.once(source.url) == 0 and room.head == head_of(world, 5)
+        note = room.read("note")
+        source.entries = again.entries(1, 2, 3, 5)
+        assert room.once(source.url) == 0 and room.read("note") == note, "nothing follows it yet"
+        source.entries = again.entries()
+        assert room.once(source.url) == 0 and room.head == head_of(again, 6) and not room.alarm
+        assert room.read("entries") == b"".join([*world.entries(1, 2, 3, 5), *again.entries(5, 6)]), "what was cosigned stays"
+        assert room.once(source.url) == 0 and room.head == head_of(again, 6), "it is read again"
+        source.entries = world.entries()
+        assert room.once(source.url) == 1 and room.alarm["why"] == "EQUIVOCATION", "two entries that follow epoch 5"
+
+
+def test_note_of_the_other_signature(room: Room) -> None:
+    """From the other signature on, no note is served before its auditor has cosigned the next head: a peer would take it for a lie."""
+    world, again = grown()
+    with Source(world.entries(1, 2, 3, 5)) as source:
+        assert room.once(source.url) == 0
+        auditor, note = room.opened(), (room.home / "key.head").read_bytes()
+        source.entries = again.entries()
+        auditor.follow(source.url)
+        assert not room.read("note") and (room.home / "key.head").read_bytes() == note
+        auditor.sign()
+        assert room.head == head_of(again, 6)
+
+
+def test_signed_again_and_withheld(room: Room) -> None:
+    """Without the other signature the next entry is an alarm, as one that follows no entry."""
+    world, again = grown()
+    with Source(world.entries(1, 2, 3, 5)) as source:
+        assert room.once(source.url) == 0
+        source.entries = [*world.entries(1, 2, 3, 5), again[6]]
+        assert room.once(source.url) == 1 and room.alarm["why"] == "PREVIOUS_LINK" and room.alarm["evidence"] == [again[6].hex()]
+        assert room.read("entries") == b"".join(world.entries(1, 2, 3, 5)) and room.head == head_of(world, 5)
+
+
+def test_signed_again_and_refused(room: Room) -> None:
+    """The other signature is stored, also if the entry that asked for it is refused after all."""
+    world, again = grown()
+    with Source(world.entries(1, 2, 3, 5)) as source:
+        assert room.once(source.url) == 0
+        source.entries = [*again.entries(1, 2, 3, 5), resigned(again[6], 81, bytes(32))]
+        assert room.once(source.url) == 1 and room.alarm["why"] == "NONCE_CHANGED"
+        assert room.read("entries") == b"".join([*world.entries(1, 2, 3, 5), again[5]])
+        assert room.once(source.url) == 1 and room.read("entries") == b"".join(
+            [*world.entries(1, 2, 3, 5), again[5]]
+        ), "it is read again"
+
+
+def test_signed_again_and_not_followed(room: Room) -> None:
+    """The other signature is not taken for an entry that follows the first one, and is refused for something else."""
+    world, again = grown()
+    with Source(world.entries(1, 2, 3, 5)) as source:
+        assert room.once(source.url) == 0
+        source.entries = [*again.entries(1, 2, 3, 5), resigned(world[6], 81, bytes(32))]
+        assert room.once(source.url) == 1 and room.alarm["why"] == "NONCE_CHANGED"
+        assert room.read("entries") == b"".join(world.entries(1, 2, 3, 5)) and room.head == head_of(world, 5)
+
+
+def test_signed_again_during_a_call(room: Room) -> None:
+    """The same within one catch-up: the page with the entry was sent before it was signed again."""
+    world, again = grown()
+    pages = [b"".join(world.entries(1, 2, 3, 5)), again[6], again[5] + again[6]]
+    with Source([]) as source:
+        source.page = lambda after: pages.pop(0) if pages else b""
+        assert room.once(source.url) == 0 and room.head == head_of(again, 6) and not pages
+
+
+def test_end_between_two_signatures(room: Room) -> None:
+    """An auditor that ends before it has stored the next entry cosigns no second head of the epoch, and goes on."""
+    world, again = grown()
+    with Source(world.entries(1, 2, 3, 5)) as source:
+        assert room.once(source.url) == 0
+        note = room.read("note")
+        (room.folder / "entries").write_bytes(b"".join([*world.entries(1, 2, 3, 5), again[5], again[6][:100]]))
+        source.entries = again.entries(1, 2, 3, 5)
+        assert room.once(source.url) == 0 and (room.home / "key.head").read_bytes() == note
+        source.entries = again.entries()
+        assert room.once(source.url) == 0 and room.head == head_of(again, 6)
+
+
+@pytest.mark.parametrize("entries", [2, 3, 4, 5, 6, 1000])
+def test_served_in_place(room: Room, entries: int, monkeypatch: pytest.MonkeyPatch) -> None:
+    """Whatever the size of a page is, another signature is served in the place of the first one, and who follows gets one chain."""
+    world, again = grown()
+    before = [*world.entries(1, 2, 3, 5), *again.entries(5, 6)]
+    again.sign_again(6)
+    (room.folder / "entries").write_bytes(b"".join([*before, again[6]]))
+    monkeypatch.setattr(audit, "PAGE", entries * 209)
+    shelf, epochs = Shelf(room.folder), [0]
+    got = list[bytes]()
+    while page := shelf.entries(epochs[-1]):
+        assert len(page) <= entries * 209
+        got += [page[at : at + 209] for at in range(0, len(page), 209)]
+        epochs = [Entry(it).epoch for it in got]
+    assert got == again.entries(), epochs
+
+
+@pytest.mark.parametrize("epoch, link", [(5, bytes(32)), (6, None)], ids=["another link", "another epoch"])
+def test_lies_beside_two_signatures(epoch: int, link: Optional[bytes], room: Room) -> None:
+    """Another signature that a peer shows doesn't excuse the head of no entry, or that of another epoch."""
+    world, again = grown()
+    with Source(world.entries()) as service, Source([*again.entries(1, 2, 3, 5), world[6]]) as peer:
+        text = text_of(POLICY, Head(epoch, link or again.link(5)))
+        peer.note = bytes(Note(text, (cosign("other", KEYS["other"], text, NOW),)))
+        assert room.once(service.url, "--peer", peer.url, str(AUDITORS["other"])) == 1
+        assert json.loads(room.read("alarm.peer"))["note"] == peer.note.decode() and not room.alarm
+
+
+def test_peers_with_two_signatures(room: Room) -> None:
+    """A peer that has cosigned the other signature of the latest epoch is no alarm. What it made up is one."""
+    world, again = grown()
+    with Source(world.entries(1, 2, 3, 5)) as service, Source(again.entries(1, 2, 3, 5)) as peer:
+        words = [service.url, "--peer", peer.url, str(AUDITORS["other"])]
+        peer.note = published(again, 5)
+        assert room.once(*words) == 3 and not room.read("alarm.peer") and room.head == head_of(world, 5)
+        peer.entries = again.entries()
+        peer.note = published(again, 6)
+        assert room.once(*words) == 0 and room.head == head_of(again, 6), "what it goes on with is taken"
+        forged = again[6][:-1] + bytes([again[6][-1] ^ 1])
+        peer.entries = [*again.entries(1, 2, 3, 5), forged]
+        text = text_of(POLICY, Head(6, Entry(forged).link))
+        peer.note = bytes(Note(text, (cosign("other", KEYS["other"], text, NOW),)))
+        assert room.once(*words) == 1 and room.read("alarm.peer") and not room.alarm, "nobody signed it"
 
 
 # Other auditors.

@@ -11,7 +11,7 @@ from typing import Iterator, Optional
 
 from bytelists import number, sha256
 from chain import body_after
-from client_alarms import AlarmClient, Trust
+from client import Client, Trust
 from client_world import NONCE, PERIOD, SIGNING_KEY, START, VRF_KEY, digest, policy_text
 from replies import reply
 
@@ -60,8 +60,8 @@ class Search:
     def __init__(self, epochs: int, again: int, since: int = 1) -> None:
         self.epochs, self.again, self.since, self.counts = epochs, again, since, Counter[str]()
 
-    def client(self, state: Optional[bytes]) -> AlarmClient:
-        client = AlarmClient(SIGNING_KEY, VRF_KEY, POLICY.encode(), trust=TRUST)
+    def client(self, state: Optional[bytes]) -> Client:
+        client = Client(SIGNING_KEY, VRF_KEY, POLICY.encode(), trust=TRUST)
         if state is None:
             client.watch(b"alice", b"A", self.since)
         else:

@@ -5,9 +5,8 @@ from __future__ import annotations
 import hashlib
 import json
 from pathlib import Path
-from typing import Any, Callable, Iterable, Iterator, Optional
+from typing import Any, Callable, Iterator, Optional
 
-import client_alarms
 import coniks
 from coniks.client import Cause, Client, Found, Refusal, Reported, Trust, Watched
 
@@ -36,25 +35,8 @@ class Clock:
 
 
 def cases() -> Iterator[Answer]:
-    """The cases of clients whose states have version 02, which the packages for other languages run."""
-    return cases_in(it.stem for it in CASES.glob("*.jsonl") if it.stem not in client_alarms.FILES)
-
-
-def alarm_cases() -> Iterator[Answer]:
-    """The cases of clients whose states have version 03."""
-    return cases_in(client_alarms.FILES)
-
-
-def shared_cases() -> Iterator[Answer]:
-    """The cases of the others without a state of version 02, or one that was made of it. Other versions are refused by all."""
-    return (it for it in cases() if (it.get("state") or "")[:2] not in ("02", "03"))
-
-
-def cases_in(names: Iterable[str]) -> Iterator[Answer]:
-    """The cases of some files."""
-    for name in sorted(names):
-        for line in (CASES / f"{name}.jsonl").read_text("utf-8").splitlines():
-            yield json.loads(line)
+    for file in sorted(CASES.glob("*.jsonl")):
+        yield from map(json.loads, file.read_text("utf-8").splitlines())
 
 
 def data(members: Answer, name: str) -> Optional[bytes]:

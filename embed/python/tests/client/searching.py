@@ -1,6 +1,6 @@
 """All that can happen to the owner of a name in a few epochs: each history of keys, each expected change, and each order of lookups,
-repeated ones and covers. A client of `coniks.client` or of the second implementation takes each step, from its state. One that keeps
-alarms also drops missing epochs, once they are lost."""
+repeated ones and covers. A client of `coniks.client` or of the second implementation takes each step, from its state. It also drops
+missing epochs, once they are lost."""
 
 from __future__ import annotations
 
@@ -12,7 +12,6 @@ from typing import Callable, Iterator, Optional, Tuple
 
 import client as second
 import client_world
-from client_alarms import AlarmClient, Trust
 from client_world import SIGNING_KEY, START, VRF_KEY, World, digest, hour, policy_text
 import coniks
 from coniks.client import Client
@@ -81,7 +80,7 @@ class Mine:
 
 
 class Theirs:
-    """The second implementation, whose signatures and proofs the caller makes valid."""
+    """The second implementation, whose signatures and proofs the caller makes valid. Its owner notes each alarm at once."""
 
     def __init__(self, state: Optional[bytes] = None) -> None:
         self.client = self.made()
@@ -91,7 +90,7 @@ class Theirs:
             self.client.resume(state)
 
     def made(self) -> second.Client:
-        return second.Client(SIGNING_KEY, VRF_KEY, POLICY.encode())
+        return second.Client(SIGNING_KEY, VRF_KEY, POLICY.encode(), trust=second.Trust(auditors=1, quorum=1))
 
     @property
     def state(self) -> bytes:
@@ -109,17 +108,6 @@ class Theirs:
         except second.Misuse:
             return False
         return True
-
-    def covers(self, epoch: int, link: bytes) -> Iterator[bytes]:
-        self.client.cover(epoch, link)
-        yield self.state
-
-
-class Alarming(Theirs):
-    """That client of the second implementation which keeps alarms. Its owner notes each at once."""
-
-    def made(self) -> AlarmClient:
-        return AlarmClient(SIGNING_KEY, VRF_KEY, POLICY.encode(), trust=Trust(auditors=1, quorum=1))
 
     def covers(self, epoch: int, link: bytes) -> Iterator[bytes]:
         """The states after a cover while no epoch is lost, and after one when each that another one follows is."""

@@ -10,12 +10,10 @@ from typing import Callable
 
 import pytest
 
-import client_alarms
+import client as second
 import curve
 from alarm_walks import AlarmWalk
 from case_runner import Answer
-from client import told
-from client_alarms import AlarmClient
 from searching import INDEX
 
 
@@ -41,9 +39,9 @@ def test_walks(pytestconfig: pytest.Config, say: Callable[[str], None]) -> None:
 
 def walked(case: Answer) -> list[str]:
     """The reports of a walk, and what else happened in it."""
-    client, seen = client_alarms.begun(case), list[str]()
+    client, seen = second.begun(case), list[str]()
     for step in case["steps"]:
-        again, alarms, entries = client_alarms.begun({**case, "state": client.state.hex()}), list(client.alarms), len(client.kept)
+        again, alarms, entries = second.begun({**case, "state": client.state.hex()}), list(client.alarms), len(client.kept)
         answer, other = taken(client, step), taken(again, step)
         assert answer == other and client.state == again.state, (step, answer, other)
         what = answer.get("report", [""])[0]
@@ -55,5 +53,5 @@ def walked(case: Answer) -> list[str]:
     return [it for it in seen if it]
 
 
-def taken(client: AlarmClient, step: Answer) -> Answer:
-    return told(lambda: client_alarms.stepped(client, copy.deepcopy(step), step["now"]))
+def taken(client: second.Client, step: Answer) -> Answer:
+    return second.told(lambda: second.stepped(client, copy.deepcopy(step), step["now"]))

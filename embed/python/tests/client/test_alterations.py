@@ -15,17 +15,17 @@ pytest.importorskip("hypothesis")
 from hypothesis import given, strategies
 
 import case_runner
-import client_alarms
+import client as second
 from alterations import Alterer, causes_in, verdict
 
 
 def test_alterations(say: Callable[[str], None]) -> None:
-    alterer, seen = Alterer([*case_runner.shared_cases(), *case_runner.alarm_cases()]), Counter[str]()
+    alterer, seen = Alterer([*case_runner.cases()]), Counter[str]()
 
     @given(strategies.randoms(use_true_random=False))
     def is_same(chance: random.Random) -> None:
         case = alterer.altered(chance)
-        mine, theirs = verdict(case_runner.verdicts, copy.deepcopy(case)), verdict(client_alarms.verdicts, case)
+        mine, theirs = verdict(case_runner.verdicts, copy.deepcopy(case)), verdict(second.verdicts, case)
         assert isinstance(mine, dict), (mine, case)
         assert mine == theirs, case
         seen.update(["", *causes_in(mine)])

@@ -9,7 +9,7 @@ import pytest
 pytest.importorskip("nacl.signing")
 
 import case_runner
-import client_alarms
+import client as second
 from case_runner import Answer
 from client import plain
 from client_attacks import WORLD
@@ -42,7 +42,7 @@ def long_case() -> Answer:
 def test_long_case() -> None:
     case = long_case()
     found = case_runner.verdicts(case)
-    assert found == client_alarms.verdicts(case)
+    assert found == second.verdicts(case)
     alarms = found["steps"][-5]["alarms"]
     assert len(alarms) > EPOCHS // 2 and plain(found)["steps"][-1]["alarms"] == [it for it in alarms if it[0] > 9]
 

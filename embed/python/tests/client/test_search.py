@@ -10,7 +10,7 @@ import pytest
 pytest.importorskip("nacl.signing")
 
 import curve
-from searching import INDEX, Alarming, Mine, Search, Theirs
+from searching import INDEX, Mine, Search, Theirs
 
 
 @pytest.fixture(autouse=True)
@@ -21,7 +21,7 @@ def _all_are_valid(monkeypatch: pytest.MonkeyPatch) -> None:
     monkeypatch.setattr(curve, "vrf_output", lambda *_: INDEX)
 
 
-@pytest.mark.parametrize("side", [Mine, Theirs, Alarming])
+@pytest.mark.parametrize("side", [Mine, Theirs])
 def test_search(side: Type[Mine | Theirs], pytestconfig: pytest.Config, say: Callable[[str], None]) -> None:
     epochs = int(pytestconfig.getoption("epochs"))
     search = Search(side, epochs)

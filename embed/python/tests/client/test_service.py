@@ -26,7 +26,7 @@ import coniks
 from coniks import _ecvrf
 from coniks.client import Client, Watched
 from coniks.guard import Guard
-from coniks.provider import Change, FileLog, Operation, Provider, ProviderError, Register, UnknownEpoch
+from coniks.provider import Change, FileLog, Operation, Provider, ProviderError, Register, UnknownEpoch, Settings
 
 
 POLICY = coniks.Policy.read(client_world.POLICY.encode())
@@ -50,7 +50,7 @@ def opened(program: str) -> Iterator[Provider]:
     with tempfile.TemporaryDirectory() as room:
         guard = Guard(Path(room) / "guard", lambda body: SIGNER.sign(body).signature, new_directory=True)
         with FileLog.create(Path(room) / "log") as log:
-            with Provider(program, index, guard, log, policy=POLICY, nonce=bytes(32)) as provider:
+            with Provider(Settings(program, index, POLICY, nonce=bytes(32)), guard, log) as provider:
                 yield provider
 
 

@@ -14,7 +14,7 @@ pytest.importorskip("hypothesis")
 from hypothesis import given, settings, strategies
 
 import case_runner
-import client_alarms
+import client as second
 from alarm_walks import AlarmWalk
 from alterations import verdict
 from walks import Walk, seen_in, state_of
@@ -26,7 +26,7 @@ def walked(walk: Walk, seen: Counter[str]) -> None:
     for _ in range(3):
         case = walk.case(state)
         case["steps"] += [walk.step() for _ in range(20)]
-        mine, theirs = verdict(case_runner.verdicts, case), verdict(client_alarms.verdicts, case)
+        mine, theirs = verdict(case_runner.verdicts, case), verdict(second.verdicts, case)
         assert isinstance(mine, dict) and mine["begin"] == {"begun": True}, (mine, case)
         assert mine == theirs, case
         seen.update(seen_in(mine))

@@ -304,8 +304,9 @@ class Cluster(ExitStack):
         """The program of some members ends, and is started again without a call."""
         for it in self.chance.sample(self.members, self.chance.randrange(1, 4)):
             for child in children_of(it.process.pid or 0):
-                if "provider" in Path(f"/proc/{child}/cmdline").read_text():
-                    kill(child)
+                with suppress(FileNotFoundError, ProcessLookupError):
+                    if "provider" in Path(f"/proc/{child}/cmdline").read_text():
+                        kill(child)
 
     def stop_database(self) -> None:
         """PostgreSQL answers nothing for some time: its processes are stopped."""

@@ -18,7 +18,7 @@ from typing import Sequence
 from unittest import mock
 
 from coniks.postgres import PostgresLog
-from coniks.provider import Provider, ProviderError, Register
+from coniks.provider import Provider, ProviderError, Register, Settings
 from coniks.replica import Replica
 from database import Database
 from node import Node
@@ -66,7 +66,7 @@ def measure_lookups(conninfo: str, program: str, names: int, seconds: float, rou
 
 def measure_takeover(log: PostgresLog, program: str, own: Provider, behind: int) -> Provider:
     start = time.monotonic()
-    replica = Replica(log, program, index, policy=POLICY)
+    replica = Replica(Settings(program, index, POLICY), log)
     replayed, first = time.monotonic() - start, own.latest().epoch + 1
     with mock.patch.object(log, "read", return_value=[]):
         for epoch in range(first, first + behind):
@@ -118,7 +118,7 @@ def measure_outage(database: Database, own: Provider, names: int, seconds: float
 
 def main(program: str, names: int = 100_000, seconds: float = 3, rounds: int = 5, outage: float = 30) -> int:
     with tempfile.TemporaryDirectory() as folder, Database(Path(folder)) as database, PostgresLog.create(database.conninfo) as log:
-        own = Provider(program, index, Salted().sign, log, policy=POLICY)
+        own = Provider(Settings(program, index, POLICY), Salted().sign, log)
         for epoch, first in enumerate(range(0, names, BATCH), 1):
             own.commit(epoch, [Register(f"user-{it}", KEY) for it in range(first, min(names, first + BATCH))])
         measure_lookups(database.conninfo, program, names, seconds, rounds)

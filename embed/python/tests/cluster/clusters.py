@@ -11,7 +11,7 @@ from typing import Any, Callable, Union
 import pytest
 
 from database import Database, soon
-from stand_ins import POLICY, Salted, Signer, index, opened, shown
+from stand_ins import POLICY, Salted, Signer, index, opened, shown, replicated
 from coniks.postgres import PostgresLog
 from coniks.provider import Change, Lookup, Provider
 from coniks.provider import ProviderError, Register, RestartNeeded, UnknownEpoch
@@ -44,7 +44,7 @@ class Cluster(ExitStack):
         return self.enter_context(opened(self.program, self.enter_context(log), self.signer, **more))
 
     def follower(self, **more: Any) -> Replica:
-        return self.enter_context(Replica(self.log(), self.program, more.pop("index", index), policy=POLICY, **more))
+        return self.enter_context(replicated(self.log(), self.program, more.pop("index", index), policy=POLICY, **more))
 
     def look(self) -> bool:
         """Looks names up at both, and compares what is shown with what was shown."""

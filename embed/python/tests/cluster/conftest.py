@@ -20,8 +20,8 @@ def pytest_collection_modifyitems(items: list[pytest.Item]) -> None:
 
 
 @pytest.fixture(scope="session")
-def postgres() -> None:
-    """Skips a test without PostgreSQL."""
+def postgres(library: None) -> None:
+    """Skips a test without PostgreSQL, or without the library for C, which has the steps of a guard."""
     if not any(Path("/usr/lib/postgresql").glob("*/bin/initdb")):
         pytest.skip("PostgreSQL is missing")
 

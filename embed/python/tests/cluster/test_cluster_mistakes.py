@@ -20,7 +20,7 @@ from stand_ins import POLICY, Salted, Signer, guarded, index, opened, other_inde
 from coniks import Head
 from coniks.postgres import PostgresLog
 from coniks.provider import LogBehind, LogFailed, LogForked, LogRefused, NoDirectory, OtherIndex, Overtaken, Provider
-from coniks.provider import Register, ReplayDiffers, RestartNeeded, entries
+from coniks.provider import Register, ReplayDiffers, RestartNeeded, entries, Settings
 from coniks.replica import Replica
 
 
@@ -161,7 +161,7 @@ def test_rights(it: Cluster) -> None:
     it.execute("CREATE ROLE reader LOGIN", "GRANT SELECT ON {table}, {table}_snapshot TO reader")
     reading = it.database.conninfo.replace("user=postgres", "user=reader")
     it.refuses("a role without rights: a writer", LogRefused, lambda: it.writer(it.log(reading)))
-    with Replica(it.log(reading), it.program, index, policy=POLICY) as replica:
+    with Replica(Settings(it.program, index, POLICY), it.log(reading)) as replica:
         it.refuses("a role without rights: promotion", LogRefused, lambda: replica.promote(it.signer))
         it.own.commit(3, [])
         assert soon(lambda: replica.latest().epoch == 3), "a role without rights: the replica goes on"
@@ -199,7 +199,7 @@ def test_keys(it: Cluster) -> None:
     signer = Signer(it.enter_context(tempfile.TemporaryDirectory()), Salted())
     log = it.enter_context(PostgresLog.create(it.database.conninfo, "fresh"))
     own = it.enter_context(opened(it.program, log, signer))
-    with Replica(it.log(table="fresh"), it.program, other_index, policy=POLICY) as replica:
+    with Replica(Settings(it.program, other_index, POLICY), it.log(table="fresh")) as replica:
         own.commit(1, [Register("alice", b"1")])
         assert soon(lambda: isinstance(replica.lag().error, OtherIndex)), "a replica with another key, of a new directory"
         it.refuses("a replica with another key: a lookup", RestartNeeded, lambda: replica.lookup("alice"))

@@ -20,7 +20,7 @@ from raising import raises
 from coniks.postgres import PostgresLog
 from coniks._engine import Engine
 from coniks.provider import Change, Closed, EpochNotLater, LogFailed, NoDirectory, Overtaken, Provider, Register
-from coniks.provider import ReplayDiffers, RestartNeeded, SignerFailed, entries
+from coniks.provider import ReplayDiffers, RestartNeeded, SignerFailed, entries, Settings
 from coniks.replica import Replica
 
 
@@ -34,7 +34,7 @@ class Pair(ExitStack):
         self.cut = f"SELECT pg_terminate_backend(pid) FROM pg_stat_activity WHERE application_name = '{table}'"
         self.database = database
         self.own = self.enter_context(opened(program, self.written, self.signer))
-        self.replica = self.enter_context(Replica(self.log, program, index, policy=POLICY))
+        self.replica = self.enter_context(Replica(Settings(program, index, POLICY), self.log))
 
     def lead(self) -> Provider:
         return self.enter_context(self.replica.promote(self.signer, verify=self.signer.verify))
@@ -149,5 +149,5 @@ def test_opening(program: str, database: Database, pair: Pair) -> None:
     """A log under another policy, and one that isn't there."""
     pair.own.commit(1, [])
     with PostgresLog(database.conninfo, "empty") as empty:
-        raises("another policy", LogFailed, lambda: Replica(pair.log, program, index, policy=bytes(32)))
-        raises("no log", NoDirectory, lambda: Replica(empty, program, index, policy=POLICY))
+        raises("another policy", LogFailed, lambda: Replica(Settings(program, index, bytes(32)), pair.log))
+        raises("no log", NoDirectory, lambda: Replica(Settings(program, index, POLICY), empty))

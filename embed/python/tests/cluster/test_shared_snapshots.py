@@ -3,10 +3,12 @@ mistakes."""
 
 from __future__ import annotations
 
+import json
 import os
+import subprocess
 import threading
 from contextlib import suppress
-from typing import Iterable, Iterator
+from typing import Any, Iterable, Iterator
 from unittest import mock
 
 import pytest
@@ -17,12 +19,12 @@ import psycopg
 from clusters import Cluster
 from database import Database, soon
 from log_calls import CANCEL, changes, commits_once_waited_for, commits_wait, says
-from stand_ins import POLICY, children_of, index, kill_child, shown
+from stand_ins import HERE, POLICY, children_of, index, kill_child, shown
 from raising import raises
 from coniks._engine import Engine
 from coniks.postgres import PostgresLog
 from coniks.provider import Change, DirectoryExists, LinesDropped, LogFailed, LogForked, LogRefused, Overtaken, ProviderError
-from coniks.provider import Register, RestartNeeded, SnapshotDiffers, UnknownEpoch, entries
+from coniks.provider import Register, RestartNeeded, SnapshotDiffers, UnknownEpoch, entries, Settings
 from coniks.replica import Replica
 
 
@@ -34,6 +36,42 @@ def breaks() -> Iterator[bytes]:
     """Lines whose source fails."""
     yield header(2)
     raise TimeoutError("told to fail")
+
+
+def test_rows_are_checked(program: str, database: Database) -> None:
+    """The commands of CLUSTER.md print what the directory has, without a snapshot, with one, and once rows were dropped. A row that
+    is altered is named."""
+    page = (HERE.parents[3] / "docs" / "CLUSTER.md").read_text("utf-8").partition("--replay` reads the rows")[2]
+    block = [it for it in page.partition("## ")[0].splitlines() if it.startswith("    ")]
+    commands = "\n".join(block).replace("coniks_log", "checked").replace("./provider", program)
+
+    def told() -> Any:
+        words = ["bash", "-c", f"set -o pipefail; database='{database.conninfo}'\n{commands}"]
+        return json.loads(subprocess.run(words, stdout=subprocess.PIPE, stderr=subprocess.DEVNULL, check=False).stdout)
+
+    with Cluster(program, database, "checked") as it:
+        log, latest = it.log(), it.own.latest()
+        wanted: dict[str, Any] = {
+            "epoch": latest.epoch,
+            "link": latest.link.hex(),
+            "names": 2,
+            "nodes": latest.nodes,
+            "ok": "replay",
+            "position": 5,
+        }
+        assert told() == wanted, "without a snapshot, whose table is missing"
+        position = it.own.compact()
+        assert told() == {**wanted, "nodes": it.own.latest().nodes}, "with a snapshot"
+        it.own.commit(3, [Register("carol \\ \n\t ö", b"key")])
+        log.drop_before(position)
+        latest = it.own.latest()
+        wanted = {"epoch": 3, "link": latest.link.hex(), "names": 3, "nodes": latest.nodes, "ok": "replay", "position": 7}
+        assert told() == wanted, "once rows were dropped"
+        database.execute("UPDATE checked SET line = convert_to(replace(convert_from(line, 'UTF8'), 'carol', 'clara'), 'UTF8')")
+        [(before,)] = database.execute("SELECT count(*) FROM checked_snapshot")
+        [(first,)] = database.execute("SELECT min(position) FROM checked")
+        line = before + 1 + position - first
+        assert told() == {"line": line, "refused": {"fault": "ReplayDiffers"}}, "a row that is altered"
 
 
 def test_table(database: Database) -> None:
@@ -255,7 +293,7 @@ def test_follows(it: Cluster, program: str, database: Database) -> None:
     it.close()
     with PostgresLog(database.conninfo, it.table) as log:
         assert len([*entries(log)]) == 9, "the chain of a log whose lines were dropped"
-        with Replica(log, program, index, policy=POLICY) as replica:
+        with Replica(Settings(program, index, POLICY), log) as replica:
             assert replica.latest().epoch == 9, "a replica of it"
 
 

@@ -13,6 +13,7 @@ from coniks.client import Client
 if TYPE_CHECKING:
     from directories import Directory
     from people import Auditing, Clock, Person
+    from verdict_runs import Room
 
 
 @pytest.fixture(autouse=True)
@@ -59,3 +60,22 @@ def auditors(clock: Clock) -> Iterator[list[Auditing]]:
         for it in made:
             opened.enter_context(it)
         yield made
+
+
+@pytest.fixture
+def room(
+    tmp_path: Path,
+    capsys: pytest.CaptureFixture[str],
+    directory: Directory,
+    auditors: list[Auditing],
+    clock: Clock,
+    monkeypatch: pytest.MonkeyPatch,
+) -> Iterator[Room]:
+    """A client that has not begun, with its directory, its auditors and its time."""
+    from people import Person
+    from verdict_runs import Room
+
+    it = Room(Person(tmp_path, capsys), directory, auditors, clock, monkeypatch)
+    yield it
+    if it.locked:
+        it.locked.close()

@@ -10,7 +10,7 @@ from http.server import BaseHTTPRequestHandler, ThreadingHTTPServer
 from typing import Any, Callable, Mapping, NamedTuple, Optional, Sequence
 from urllib.parse import parse_qs, urlsplit
 
-from client_world import FIRST, POLICY, Batch, World, digest, policy_text, signed
+from client_world import FIRST, POLICY, Batch, World, digest, policy_text
 
 # A directory whose epochs begin each hour, and the policy of one that promises records of owners.
 BEGUN = [(1, FIRST), (2, {"carol": b"key of carol"})]
@@ -21,15 +21,6 @@ Batches = Sequence[tuple[int, Mapping[str, bytes]]]
 def vouched_world(batches: Sequence[tuple[int, Batch]]) -> World:
     """A directory that promises records of owners."""
     return World(batches, policy=digest(VOUCHED))
-
-
-def sign_again(world: World, epoch: int) -> None:
-    """Signs the body of an epoch again, and those of the later ones over it."""
-    numbers = [it for it in world.epochs if it > epoch]
-    world.epochs[epoch].entry = signed(world[epoch][:145], nonce=7)
-    for before, it in zip([epoch, *numbers], numbers):
-        body = world[it][:145]
-        world.epochs[it].entry = signed(body[:49] + world.link(before) + body[81:])
 
 
 class Reply(NamedTuple):

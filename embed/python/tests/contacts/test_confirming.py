@@ -10,7 +10,7 @@ import pytest
 pytest.importorskip("nacl.signing")
 
 from client_world import hour
-from directories import Directory, Reply, sign_again
+from directories import Directory, Reply
 from people import AUDITORS, FORKS, KEYS, NOW, POLICY, WORLD, Auditing, Clock, Person, convicted
 from coniks import Head, contacts
 from coniks._client_state import StateFile
@@ -98,7 +98,8 @@ def test_unconfirmed_epochs(
 def test_heads_of_their_own(
     tmp_path: Path, capsys: pytest.CaptureFixture[str], directory: Directory, auditors: list[Auditing], clock: Clock
 ) -> None:
-    """An auditor confirms each epoch up to its own head, also if the heads differ. A key isn't taken from an earlier epoch than before."""
+    """An auditor confirms each epoch up to its own head, also if the heads differ. An epoch that was confirmed once stays so, and a key
+    isn't taken from an earlier one."""
     it = Person(tmp_path, capsys)
     it.begin(directory, *[a.pair for a in auditors], faulty=1)
     directory.commit(3, alice=b"second key of alice")
@@ -110,7 +111,8 @@ def test_heads_of_their_own(
     for a in auditors[:2]:
         a.sign(2, hour(3))
     status, lines = it.run("lookup", "alice")
-    assert (status, lines[0]["epoch"], lines[0]["change"]) == (0, 3, "same") and lines[1]["agreed"] == 2
+    assert (status, lines[0]["epoch"], lines[0]["change"]) == (0, 3, "same") and lines[1]["agreed"] == 3
+    assert lines[1]["text"] == "3 of your 4 auditors confirm this chain up to epoch 3"
 
 
 def test_without_auditors(person: Person) -> None:
@@ -166,9 +168,9 @@ def test_signed_again(tmp_path: Path, capsys: pytest.CaptureFixture[str], direct
     """Auditors that have another signature of the latest entry have no other chain. Heads of both signatures don't count together."""
     it = Person(tmp_path, capsys)
     it.begin(directory, auditors[0].pair, auditors[1].pair)
-    sign_again(directory.world, 2)
+    directory.world.sign_again(2)
     assert it.run("lookup", "alice")[0] == 0, "the service has the other one"
-    sign_again(auditors[1].world, 2)
+    auditors[1].world.sign_again(2)
     auditors[1].sign(2)
     status, lines = it.run("lookup", "alice")
     assert status == 3 and "1 of your 2 auditors" in lines[-1]["text"] and not it.stored()["found"], lines

@@ -21,7 +21,7 @@ pytest.importorskip("nacl.signing")
 import client_world
 import vouched
 from client_world import World, hour
-from directories import Directory, Reply, sign_again, vouched_world
+from directories import Directory, Reply, vouched_world
 from people import AUDITORS, FORKS, KEYS, POLICY, WORLD, Auditing, Clock, Person, convicted
 from sources import dripping
 from coniks import Head, Policy, _http, _own_names, _person, contacts
@@ -335,6 +335,7 @@ def test_changes_without_a_promise(tmp_path: Path, capsys: pytest.CaptureFixture
         assert (it.begin(directory), friend.begin(directory)) == (0, 0)
         assert it.run("register", "dave", "key one")[0] == 0 and friend.run("lookup", "dave")[0] == 0
         directory.commit(4, dave=b"key of mallory")
+        assert it.run("lookup", "dave")[0] == 1 and [kept["kind"] for kept in it.stored()["found"]] == ["changed"]
         assert is_alarm(it.run("watch"), 4)
         status, lines = friend.run("lookup", "dave")
         assert (status, lines[0]["change"]) == (1, "unvouched") and "did not sign the change: don't use it" in lines[0]["text"]
@@ -653,9 +654,9 @@ def test_damaged_state(person: Person, directory: Directory) -> None:
 def test_other_versions(person: Person, directory: Directory) -> None:
     """A state that another version of coniks-client wrote isn't taken for a changed one, and is left as it is."""
     whole, count = person.state.read_bytes(), len(directory.asked)
-    assert whole.startswith(b"coniks-client 2 ")
-    for version in (b"1", b"3"):
-        text = whole.replace(b" 2 ", b" %s " % version, 1)
+    assert whole.startswith(b"coniks-client 3 ")
+    for version in (b"1", b"2", b"4"):
+        text = whole.replace(b" 3 ", b" %s " % version, 1)
         person.state.write_bytes(text)
         status, [line] = person.run("watch")
         assert status == 3 and "of another version" in line["text"] and "changed" not in line["text"]
@@ -681,7 +682,7 @@ def test_rights(person: Person) -> None:
     """The state has secret keys: nobody else reads it, whatever is in its place before. A symbolic link stays."""
     assert person.state.stat().st_mode & 0o777 == 0o600
     left = person.room / "state.new"
-    left.write_text("coniks-client 2 left")
+    left.write_text("coniks-client 3 left")
     left.chmod(0o666)
     assert person.run("lookup", "alice")[0] == 0 and person.state.stat().st_mode & 0o777 == 0o600 and not left.exists()
     person.state.rename(person.room / "real")
@@ -852,11 +853,11 @@ def test_signed_again(person: Person, directory: Directory) -> None:
     """The next entry may link to another signature of the latest one: the chain goes on with that, and so does an own name."""
     assert person.run("register", "dave", "key one")[0] == 0
     directory.commit(4)
-    sign_again(directory.world, 3)
+    directory.world.sign_again(3)
     status, lines = person.run("watch")
     assert status == 0 and lines[0]["epochs"] == [4], lines
     assert person.run("lookup", "dave")[0] == 0 and not person.stored()["found"]
-    sign_again(directory.world, 4)
+    directory.world.sign_again(4)
     assert person.run("watch")[0] == 0, "the latest one"
 
 

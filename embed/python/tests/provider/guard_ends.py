@@ -47,6 +47,9 @@ class Asker:
         append(self.room / "given", (body + self.guard(body)).hex())
 
 
+NOTHING = "nothing is signed"
+
+
 def what_is_wrong(room: Path, signer: Signer, guard: Guard) -> str:
     """What is wrong with the entries that were given out. Empty if nothing is."""
     given = {bytes.fromhex(it) for it in lines(room / "given")}
@@ -57,7 +60,7 @@ def what_is_wrong(room: Path, signer: Signer, guard: Guard) -> str:
         return "an abandoned body is signed"
     if not all(signer.verify(it[:145], it[145:]) for it in given):
         return "a signature isn't valid"
-    return "" if given else "nothing is signed"
+    return "" if given else NOTHING
 
 
 def restless(chance: random.Random) -> Callable[[], None]:

@@ -2,12 +2,12 @@
 
 from __future__ import annotations
 
-import json
 import subprocess
 import sys
 import time
 from typing import Any, Callable
 
+from stored import joined, parted
 
 Answer = dict[str, Any]
 
@@ -127,9 +127,10 @@ def main(mode: str, words: list[str]) -> None:
         for line in sys.stdin.buffer:
             real.stdin.write(line)
             real.stdin.flush()
-            answer = json.loads(real.stdout.readline())
+            answer, store = parted(real.stdout.readline())
             alter(answer)
-            print(json.dumps(answer), flush=True)
+            sys.stdout.buffer.write(joined(answer, store))
+            sys.stdout.buffer.flush()
         real.stdin.close()
 
 

@@ -4,7 +4,7 @@
 
 A file `PID KIND WHAT` in the folder is for the process of this number, at its next line of this kind. `waits` lets it wait until the
 file is gone, `ends` ends it before it reads the line, `ends after` before it answers. `differs` alters its answer, and `refuses`
-makes it a fault. A file without a number, `KIND WHAT`, is for whichever process takes it first. Each process appends the kinds of its
+makes it a fault. `forgets` leaves out the line for the log, and `forges` alters it. A file without a number, `KIND WHAT`, is for whichever process takes it first. Each process appends the kinds of its
 lines to the file `PID seen`, and `KIND waits` to it when it waits.
 """
 
@@ -18,6 +18,7 @@ import time
 from pathlib import Path
 from typing import Any, Optional
 
+from stored import joined, parted
 
 # The longest wait, if nobody is left who removes the file.
 SECONDS = 60
@@ -28,7 +29,7 @@ def told(folder: Path, kind: str) -> Optional[str]:
     if (folder / f"{os.getpid()} {kind} waits").exists():
         return "waits"
     for whose in (f"{os.getpid()} ", ""):
-        for what in ("ends", "ends after", "differs", "refuses"):
+        for what in ("ends", "ends after", "differs", "refuses", "forgets", "forges"):
             try:
                 os.unlink(folder / f"{whose}{kind} {what}")
                 return what
@@ -65,15 +66,20 @@ def main(folder: Path, program: str) -> int:
                     time.sleep(0.002)
             real.stdin.write(line)
             real.stdin.flush()
-            answer = json.loads(real.stdout.readline())
+            answer, store = parted(real.stdout.readline())
             if what == "ends after":
                 real.kill()
                 return 1
             if what == "differs":
                 answer = altered(answer)
             elif what == "refuses":
-                answer = {"fault": "NotOpen"}
-            print(json.dumps(answer), flush=True)
+                answer, store = {"fault": "NotOpen"}, b""
+            elif what == "forgets":
+                store = b""
+            elif what == "forges":
+                store = store.replace(b'"cmd"', b'"Cmd"')
+            sys.stdout.buffer.write(joined(answer, store))
+            sys.stdout.buffer.flush()
         real.stdin.close()
     return 0
 

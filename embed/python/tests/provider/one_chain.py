@@ -11,12 +11,11 @@ from typing import Any, ContextManager
 
 from bodies import is_evidence
 from memory_log import Lines, MemoryLog
-from stand_ins import POLICY, Salted, Signer, audited, guarded, in_room, index, kill_child, lines, opened
+from stand_ins import POLICY, Salted, Signer, audited, guarded, in_room, index, kill_child, lines, opened, replicated
 from steps import HookedLog
 from raising import raises
 from coniks.guard import Guard
 from coniks.provider import Provider, Register, SignerFailed, entries
-from coniks.replica import Replica
 
 
 class SharedLog(HookedLog):
@@ -63,7 +62,7 @@ class Stage:
         if how == "new":
             self.opened(sign_pending=False)
         elif how == "promote":
-            replica = Replica(MemoryLog(self.lines), self.program, index, **self.more)
+            replica = replicated(MemoryLog(self.lines), self.program, index, **self.more)
             sign: Any = self.guard if self.is_guarded else self.signer
             self.provider = replica.promote(sign, verify=self.signer.verify, sign_pending=False)
 

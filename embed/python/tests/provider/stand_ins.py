@@ -18,6 +18,7 @@ import coniks
 from bytelists import link
 from coniks import provider
 from coniks.guard import BodyRefused, Guard
+from coniks.replica import Replica
 from members import Fault as SecondFault
 from proofs import Proof, judge
 
@@ -185,7 +186,19 @@ def opened(
 ) -> provider.Provider:
     """A provider that signs by a signer, or through a guard over it."""
     settings: dict[str, Any] = {"policy": POLICY, "verify": signer.verify, **more}
-    return provider.Provider(program, index, sign or signer, log, **settings)
+    return provided(program, index, sign or signer, log, **settings)
+
+
+def provided(program: Any, index: Callable[[str], bytes], sign: Any, log: provider.Log, **more: Any) -> provider.Provider:
+    """A provider with some settings, and what is no setting."""
+    given = {it: more.pop(it) for it in ("create", "head", "sign_pending") if it in more}
+    return provider.Provider(provider.Settings(program, index, **more), sign, log, **given)
+
+
+def replicated(log: provider.SharedLog, program: Any, index: Callable[[str], bytes], **more: Any) -> Replica:
+    """A replica with some settings, and perhaps a head."""
+    given = {it: more.pop(it) for it in ("head",) if it in more}
+    return Replica(provider.Settings(program, index, **more), log, **given)
 
 
 def is_new(log: provider.Log) -> bool:

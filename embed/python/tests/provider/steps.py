@@ -77,7 +77,7 @@ class Stage:
 
 def of_kind(kind: bytes, call: Hook) -> Callable[[bytes], object]:
     """A hook that makes its call at lines of one kind."""
-    return lambda line: call() if line.startswith(b'{"cmd":"%s"' % kind) else None
+    return lambda line: call() if b'"cmd":"%s"' % kind in line else None
 
 
 def stopped(error: Union[BaseException, type[BaseException]] = Stop) -> Callable[..., NoReturn]:

@@ -23,7 +23,7 @@ from snapshots import staged as with_snapshots
 from steps import HookedLog, of_kind, stopped
 from coniks._lines import lookup_line
 from coniks.provider import Change, ChildrenDiffer, Closed, Epoch, FileLog, LogRefused, NameTaken, NameUnknown, NoDirectory
-from coniks.provider import ProgramFailed, Register, RestartNeeded, SignerFailed, UnknownEpoch, entries
+from coniks.provider import ProgramFailed, Register, RestartNeeded, SignerFailed, UnknownEpoch, entries, Settings
 from coniks.replica import Replica
 
 # How long a call may take that must not wait for a child.
@@ -343,6 +343,23 @@ def test_refused(program: str) -> None:
         assert len([*it.file.read(0)]) == 5 and len(lines(it.signer.file)) == 2, "neither log nor signer has seen it"
 
 
+@pytest.mark.parametrize("kind", ["prepare", "install"])
+@pytest.mark.parametrize("what", ["forgets", "forges"])
+def test_no_line_for_the_log(program: str, kind: str, what: str) -> None:
+    """Both children print no line for the log, or another one than they were sent: the log has nothing of it, and other children
+    go on."""
+    with none_left(), staged(program) as it:
+        for child in (0, 1):
+            it.tell(child, kind, what)
+        before = [*it.file.read(0)]
+        raised = raises("a commit", ProgramFailed, lambda: it.commit(2))
+        assert "for the log" in str(raised)
+        added = [*it.file.read(0)][len(before) :]
+        assert len(added) == (kind == "install") and it.own.lookup("first").entry == it.first.entry, "the log has nothing of it"
+        made = it.own.retry() if it.own.pending else it.commit(2)
+        assert it.own.lookup("user-2").entry == made.entry and it.is_alike() and it.is_asked_once() == (kind == "prepare")
+
+
 def test_log_refuses(program: str) -> None:
     """The log refuses lines: both children take back an update, and both keep an epoch until the log has it."""
     with none_left(), staged(program) as it:
@@ -353,27 +370,59 @@ def test_log_refuses(program: str) -> None:
             it.log.before = lambda line: None
             assert bool(it.own.pending) == bool(count) and it.own.lookup("first").epoch == 1
         assert it.own.retry().epoch == 2 and it.is_alike() and it.is_asked_once()
-        assert it.seen(first) == it.seen(second) == ["prepare", "prepare", "install"], "each line once"
+        assert it.seen(first) == it.seen(second) == ["prepare", "withdraw", "prepare", "install"], "each line once"
 
 
 def test_withdrawn(program: str) -> None:
     """The log refuses the line that would replace an update that was given up: in both children that one is pending again."""
     with in_room(lambda room: Stage(room, program)) as it:
-        it.close()
-        it.file = FileLog(it.room / "log")
-        it.log = HookedLog(it.file)
-        guard = guarded(it.signer, known=it.first.entry)
-        it.own = it.opened(sign=guard)
-        it.signer.fails = 1
-        raises("a signer that fails", SignerFailed, lambda: it.commit(2))
-        it.own.abandon()
-        it.log.before = of_kind(b"prepare", stopped(LogRefused("told to refuse")))
-        raises("a commit", LogRefused, lambda: it.commit(3))
+        gives_up(it)
+        refuses(it, 3)
         first, second = it.own.pids
-        assert it.seen(first)[-3:] == it.seen(second)[-3:] == ["prepare"] * 3, "both have taken it back"
-        it.log.before = lambda line: None
+        assert it.seen(first)[-3:] == it.seen(second)[-3:] == ["prepare", "withdraw", "prepare"], "both have taken it back"
         made = it.commit(4)
         assert it.own.lookup("user-4").entry == made.entry and it.is_alike()
+
+
+def gives_up(it: Stage) -> None:
+    """Leaves an update pending that a guard has abandoned."""
+    it.close()
+    it.file = FileLog(it.room / "log")
+    it.log = HookedLog(it.file)
+    it.own = it.opened(sign=guarded(it.signer, known=it.first.entry))
+    it.signer.fails = 1
+    raises("a signer that fails", SignerFailed, lambda: it.commit(2))
+    it.own.abandon()
+
+
+def refuses(it: Stage, epoch: int) -> None:
+    """The log refuses a `prepare` line, and then goes on."""
+    it.log.before = of_kind(b"prepare", stopped(LogRefused("told to refuse")))
+    raises("a commit", LogRefused, lambda: it.commit(epoch))
+    it.log.before = lambda line: None
+
+
+@pytest.mark.parametrize("what", ["ends", "ends after", "refuses", "differs"])
+@pytest.mark.parametrize("children", [[0], [1], [0, 1]])
+@pytest.mark.parametrize("is_over", [False, True])
+def test_end_at_withdraw(program: str, children: list[int], what: str, is_over: bool) -> None:
+    """Children end, or answer otherwise, at the line that drops a refused update: with and without one that was pending before, the
+    next commit goes on as if the refused one never was. Two that differ are restarted first."""
+    with none_left(), in_room(lambda room: Stage(room, program)) as it:
+        if is_over:
+            gives_up(it)
+        before = [*it.file.read(0)]
+        for child in children:
+            it.tell(child, "withdraw", what)
+        refuses(it, 3)
+        assert [*it.file.read(0)] == before and it.own.lookup("first").entry == it.first.entry, "nothing is changed"
+        if what == "refuses" and len(children) == 1 and children[0]:
+            raises("a commit", RestartNeeded, lambda: it.commit(4))
+            it.own.restart(sign_pending=False)
+        assert bool(it.own.pending) == is_over, "what was pending is"
+        made = it.commit(4)
+        assert it.own.lookup("user-4").entry == made.entry and soon(lambda: len(it.own.pids) == 2) and it.is_alike()
+        assert audited(entries(it.log), it.signer.keys, False)
 
 
 @pytest.mark.parametrize("count", [0, 3, -1, True, "2", 2.0, None])
@@ -483,7 +532,7 @@ def test_replica(program: str, room: str) -> None:
     with none_left():
         writer = opened(program, MemoryLog(shared), signer, create=True)
         writer.commit(1, [Register("first", b"key")])
-        replica = Replica(MemoryLog(shared), words, index, policy=POLICY, children=2)
+        replica = Replica(Settings(words, index, POLICY, children=2), MemoryLog(shared))
         pids = replica.pids
         file = Path(room) / f"{pids[0]} install waits"
         file.touch()

@@ -23,6 +23,7 @@ from coniks.provider import (
     LogFailed,
     ProviderError,
     Register,
+    Settings,
     SignerFailed,
 )
 from coniks.replica import Replica
@@ -137,12 +138,12 @@ def test_policies(program: str) -> None:
         stage.opened(policy=CLOCKED.digest)
         assert stage.provider.commit(4, []).epoch == 4, "clock: the digest alone has no clock"
         stage.provider.close()
-        replica = Replica(MemoryLog(stage.lines), program, index, policy=CLOCKED, workers=1)
+        replica = Replica(Settings(program, index, CLOCKED, workers=1), MemoryLog(stage.lines))
         with replica.promote(stage.guard, verify=stage.signer.verify) as new:
             raises("clock: a promoted replica has it", EpochNotNow, lambda: new.commit(5, []), epoch=5, now=2)
             assert new.commit(5, [], force=True).epoch == 5 and stage.is_one_chain(), "clock: a promoted replica, forced"
         raises(
             "clock: a replica of another policy",
             LogFailed,
-            lambda: Replica(MemoryLog(stage.lines), program, index, policy=POLICY),
+            lambda: Replica(Settings(program, index, POLICY), MemoryLog(stage.lines)),
         )

@@ -4,14 +4,16 @@ from __future__ import annotations
 
 import json
 import tempfile
+from dataclasses import replace
 from pathlib import Path
 from typing import Callable
+from unittest import mock
 
 from memory_log import Lines, MemoryLog
 from one_chain import staged
 from stand_ins import HERE, POLICY, Salted, Signer, audited, guarded, index, opened, shown, soon
 from raising import raises
-from coniks.provider import FileLog, LogFailed, Register, SignerFailed, entries
+from coniks.provider import Change, EpochSpent, FileLog, LogFailed, LogRefused, Operation, Register, SignerFailed, entries, Settings
 from coniks.replica import Replica
 
 
@@ -39,6 +41,9 @@ def test_first(program: str) -> None:
                 signer.fails = 1
                 raises("first format: a signer that fails", SignerFailed, lambda: own.commit(8, [Register("fritz", b"8")]))
                 own.abandon()
+                with mock.patch.object(log, "append", side_effect=LogRefused("told to refuse: try again")):
+                    raises("first format: a log that refuses", LogRefused, lambda: own.commit(9, []))
+                assert own.pending and own.pending.epoch == 8, "first format: it is pending again"
                 own.commit(9, [])
                 lines = [json.loads(it) for it in log.read(0)]
                 assert (
@@ -52,6 +57,44 @@ def test_first(program: str) -> None:
 def edited(line: bytes, **members: object) -> bytes:
     """A line with other members. Those that are None are left out."""
     return json.dumps({it: of for it, of in {**json.loads(line), **members}.items() if of is not None}).encode()
+
+
+def otherwise(line: bytes) -> bytes:
+    """A line as another tool may write it: the members in another order, spaces, escapes and capital digits."""
+
+    def changed(it: object) -> object:
+        if isinstance(it, dict):
+            return {name: of.upper() if name in ("index", "opening", "nonce") else changed(of) for name, of in reversed(it.items())}
+        return [*map(changed, it)] if isinstance(it, list) else it
+
+    return json.dumps(changed(json.loads(line)), indent=None, separators=(", ", " : "), ensure_ascii=True).encode()
+
+
+def test_written_otherwise(program: str) -> None:
+    """A pending update is known by its epoch, nonce and operations, however its line is written."""
+    names = ["bob", 'ö "\\ \x00\u2028 \U0001f600', "x" * 255]
+    for nonce in (None, bytes(range(32))):
+        with staged(program) as stage:
+            mine: list[Operation] = [Register(it, b"key of " + it.encode()) for it in names]
+            stage.signer.fails = 1
+            raises("written otherwise", SignerFailed, lambda: stage.provider.commit(2, mine, nonce))
+            stage.provider.close()
+            lines = [*stage.lines.all[:-1], otherwise(stage.lines.all[-1])]
+            assert lines[-1] != stage.lines.all[-1]
+            stage.lines.replace([*lines])
+            with opened(program, MemoryLog(stage.lines), stage.signer, stage.guard, sign_pending=False) as own:
+                *same, last = mine
+                alike: list[Operation] = [
+                    replace(last, key=b"other"),
+                    replace(last, opening=bytes(32)),
+                    Change(last.name, last.key, last.opening),
+                ]
+                wrong: list[list[Operation]] = [same, mine[::-1], *([*same, it] for it in alike)]
+                for others in wrong:
+                    raises("written otherwise: other operations", EpochSpent, lambda: own.commit(2, others, nonce))
+                raises("written otherwise: another nonce", EpochSpent, lambda: own.commit(2, mine, bytes(32)))
+                assert own.commit(2, mine, nonce).epoch == 2 and len(stage.lines.all) == len(lines) + 1
+                assert [shown(own.lookup(it.name)) for it in mine] == [it.key for it in mine]
 
 
 def test_second(program: str) -> None:
@@ -93,7 +136,7 @@ def test_running(program: str) -> None:
     """A replica and a provider that run while another tool replaces an update: lookups go on, and then both follow again."""
     with staged(program) as stage:
         own = stage.provider
-        replica = Replica(MemoryLog(stage.lines), program, index, policy=POLICY, workers=1)
+        replica = Replica(Settings(program, index, POLICY, workers=1), MemoryLog(stage.lines))
         stage.fails("running")
         lines = list(stage.lines.all)
         own.abandon()
@@ -102,7 +145,7 @@ def test_running(program: str) -> None:
         assert soon(lambda: replica.latest().epoch == 3), "running: the replica follows"
         stage.lines.replace(lines)
         stage.provider.close()
-        behind = Replica(MemoryLog(stage.lines), program, index, policy=POLICY, workers=1)
+        behind = Replica(Settings(program, index, POLICY, workers=1), MemoryLog(stage.lines))
         stage.lines.replace([*lines, edited(after[len(lines)], abandons=None), *after[len(lines) + 1 :]])
         assert soon(lambda: type(behind.lag().error) is LogFailed), f"running: a replica notices: {behind.lag()}"
         raises("running: follow", LogFailed, behind.follow)

@@ -31,7 +31,7 @@ from interrupts import Injected, Interrupt
 from stand_ins import HAS_NACL, HERE, lines
 from steps import Stop
 from raising import raises
-from guard_ends import Asker, KINDS, restless, what_is_wrong
+from guard_ends import Asker, KINDS, NOTHING, restless, what_is_wrong
 from coniks import guard as module
 from coniks import _files
 from coniks.guard import BodyRefused, GuardError, RecordFailed
@@ -300,7 +300,8 @@ def test_kills(pytestconfig: pytest.Config, say: Callable[[str], None], seed: in
                 said = one_kill(chance, room, kind)
                 assert not said, f"kill {number}, {kind}: both ran until they were killed: {said}"
                 wrong = what_is_wrong(room, bench.signer, bench.open())
-                assert not wrong, f"kill {number}, {kind}: one chain: {wrong}"
+                # Both may have been killed before their first call.
+                assert wrong in ("", NOTHING), f"kill {number}, {kind}: one chain: {wrong}"
             given, used = given + len({*lines(room / "given")}), used + len(bench.used())
             abandoned += len({*lines(room / "abandoned")})
     assert given and abandoned, "kills: bodies were signed and abandoned"

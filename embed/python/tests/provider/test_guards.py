@@ -465,6 +465,35 @@ def test_wrong_key(room: str) -> None:
     assert bench.signer.verify(later, bench.guard(later))
 
 
+def test_wrong_key_while_open(room: str) -> None:
+    """A wrong signature is not replaced while another body is open, since that one names the entry with the wrong one. Once it is
+    abandoned, the next body follows the entry with the right one."""
+    bench = Bench(room, 1)
+    mine = after(bench.last)
+    wrong = Guard(bench.path, lambda _: bytes(64))(mine)
+    opened = after(mine + wrong)
+    bench.signer.fails = 1
+    raises("wrong key: the next body is asked for", TimeoutError, lambda: bench.guard(opened))
+    bench.guard.verify_by(bench.signer.verify)
+    text = bench.text()
+    refusal = raises("wrong key: it is not replaced", BodyRefused, lambda: bench.guard(mine))
+    assert "another body is open, of epoch 3" in str(refusal) and bench.text() == text
+    bench.guard.abandon(opened)
+    right = bench.guard(mine)
+    assert bench.signer.verify(mine, right) and bench.guard.signed() == mine + right
+    refused("wrong key: the body that named it", BodyAbandoned, bench, lambda: bench.guard(opened), "was abandoned")
+    bench.entries.append(mine + right)
+    bench.sign(after(bench.last))
+    assert is_chain(bench.entries), "wrong key: one chain"
+
+
+def test_without_library(room: str) -> None:
+    """A guard says at once that the library is missing, before it makes a file."""
+    words = [sys.executable, "-c", f"import coniks.guard; coniks.guard.Guard({room + '/record'!r}, bytes, new_directory=True)"]
+    ran = subprocess.run(words, capture_output=True, text=True, env=os.environ | {"CONIKS_LIBRARY": room + "/none.so"})
+    assert ran.returncode and "ImportError: the library can't be loaded" in ran.stderr and not os.listdir(room), ran.stderr
+
+
 @pytest.mark.parametrize("moment", ["locked", "written"])
 def test_removed_lock(room: str, moment: str, monkeypatch: pytest.MonkeyPatch) -> None:
     """A cleaner removes the lock's file, and another guard signs another body, before this one has locked it or just before it renames:

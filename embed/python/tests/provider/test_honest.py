@@ -25,13 +25,13 @@ from unittest import mock
 
 import pytest
 
-from stand_ins import POLICY, Salted, index, kill_child
+from stand_ins import POLICY, Salted, index, kill_child, provided
 from bodies import is_evidence
 from memory_log import Lines, MemoryLog
 from coniks import provider
 from coniks.guard import Guard, GuardError, RecordFailed
 from coniks.policy import Policy
-from coniks.provider import Change, LogRefused, Operation, Overtaken, Provider, ProviderError, Register
+from coniks.provider import Change, LogRefused, Operation, Overtaken, Provider, ProviderError, Register, Settings
 from coniks.replica import Replica
 
 
@@ -186,7 +186,7 @@ class Member:
     def opens(self, **more: Any) -> Provider:
         world = self.world
         settings: dict[str, Any] = {"policy": world.policy, "verify": world.keys.verify, "workers": 1, "timeout": 60, **more}
-        return Provider(world.program, index, self.sign(), world.log(), **settings)
+        return provided(world.program, index, self.sign(), world.log(), **settings)
 
     def event(self) -> None:
         """Makes a random call. An error is what the process is told, and a crash is its end."""
@@ -229,7 +229,7 @@ class Member:
     def _begins(self, chance: random.Random) -> str:
         world = self.world
         if world.lines.all and chance.randrange(3) == 0:
-            self.own = Replica(world.log(), world.program, index, policy=world.policy, workers=1, timeout=60)
+            self.own = Replica(Settings(world.program, index, world.policy, workers=1, timeout=60), world.log())
             return "replica"
         self.own = self.opens(sign_pending=chance.random() < 0.7, create=not world.lines.all)
         return "start"

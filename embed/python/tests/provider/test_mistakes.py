@@ -23,7 +23,7 @@ from unittest import mock
 
 import pytest
 
-from stand_ins import POLICY, Salted, Signer, guarded, index, other_index, lines, opened, shown, small_disk
+from stand_ins import POLICY, Salted, Signer, guarded, index, other_index, lines, opened, shown, small_disk, provided
 from raising import raises
 import coniks
 from coniks import provider
@@ -31,7 +31,7 @@ from coniks.provider import Change, DirectoryExists, EpochNotLater, EpochSpent, 
 from coniks.provider import LogForked
 from coniks.provider import LogRefused, Lookup, NoDirectory, OtherIndex, Overtaken, ProgramFailed, Provider, ProviderError, Register
 from coniks.guard import Guard
-from coniks.provider import RecordBehind, ReplayDiffers, RestartNeeded, SignerFailed, entries
+from coniks.provider import RecordBehind, ReplayDiffers, RestartNeeded, SignerFailed, entries, Settings
 
 
 Call = Callable[[], object]
@@ -67,7 +67,7 @@ class Service:
         with ExitStack() as failing:
             failing.callback(file.close)
             settings: dict[str, Any] = {"index": index, "policy": POLICY, "verify": self.signer.verify, **more}
-            own = Provider(self.program, settings.pop("index"), settings.pop("sign", self.signer), file, **settings)
+            own = provided(self.program, settings.pop("index"), settings.pop("sign", self.signer), file, **settings)
             failing.pop_all()
         return self._rooms.enter_context(own)
 
@@ -546,7 +546,7 @@ def test_refusals(it: Service) -> None:
     append = log.append
 
     def refuses_install(position: int, line: bytes) -> None:
-        if line.startswith(b'{"cmd":"install"'):
+        if b'"cmd":"install"' in line:
             refuses()
         append(position, line)
 
@@ -637,7 +637,7 @@ def test_programs(it: Service) -> None:
     ]
     for what, words in programs:
         with FileLog(it.log) as log:
-            it.refuses(what, ProgramFailed, lambda: Provider(words, index, it.signer, log, policy=POLICY))
+            it.refuses(what, ProgramFailed, lambda: Provider(Settings(words, index, POLICY), it.signer, log))
     assert it.log.read_bytes() == before, "other programs: the log is as it was"
     it.own = it.opened()
     it.goes_on("the right program")

@@ -180,7 +180,11 @@ def refuses_next(stage: Stage) -> None:
     stage.log.before = stopped(LogRefused("told to refuse: try again"))
     with mock.patch.object(Engine, "ask", ask):
         raises("a log that refuses", LogRefused, lambda: stage.provider.commit(4, [Register("no", b"key")]))
-    assert told[-1] == stage.lines.all[-1] and len(told) == 2, "the child takes the update back"
+    stored, (mine, dropped, again) = json.loads(stage.lines.all[-1]), map(json.loads, told)
+    assert mine["abandons"] == stored["body"] and "body" not in mine, "the line says what it abandons"
+    assert dropped == {"cmd": "withdraw"} and again == {
+        it: stored[it] for it in stored if it != "abandons"
+    }, "the child takes it back"
 
 
 def fails_next(stage: Stage, is_stored: bool) -> None:
@@ -232,6 +236,34 @@ def test_between(program: str, by: str, what: str) -> None:
         assert stage.epochs() == wanted and stage.given_up() == [body] and stage.is_one_chain(), "another one follows"
         own.restart()
         assert own.chain() == [*entries(stage.log)] and not own.pending, "a replay"
+
+
+def test_refused_again_and_again(program: str) -> None:
+    """The log refuses lines, one after another, over an update whose own line abandons another one."""
+    with staged(program) as stage:
+        bodies: list[bytes] = []
+        for epoch in (2, 3):
+            stage.fails("again", epoch)
+            assert stage.provider.pending
+            bodies.append(stage.provider.pending.body)
+            stage.provider.abandon()
+        assert json.loads(stage.lines.all[-1])["abandons"] == bodies[0].hex()
+        kept = [*stage.lines.all]
+        for _ in range(3):
+            refuses_next(stage)
+            assert stage.lines.all == kept and stage.provider.pending and stage.provider.pending.body == bodies[1], "it is pending"
+        stage.log.before = lambda line: None
+        stage.provider.commit(5, [Register("five", b"key")])
+        assert stage.epochs() == [1, 5] and stage.given_up() == bodies and stage.is_one_chain(), "another one follows"
+        stage.log.before = of_kind(b"install", stopped(LogRefused("told to refuse: try again")))
+        raises("a log that refuses an entry", LogRefused, lambda: stage.provider.commit(6, []))
+        stage.log.before = of_kind(b"prepare", stopped(LogRefused("told to refuse: try again")))
+        raises("a log that refuses the next line", LogRefused, lambda: stage.provider.commit(7, []))
+        assert stage.epochs() == [1, 5, 6] and not stage.provider.pending and stage.provider.latest().epoch == 6
+        stage.log.before = lambda line: None
+        stage.provider.commit(8, [Register("no", b"key")])
+        stage.provider.restart()
+        assert stage.epochs() == [1, 5, 6, 8] and stage.is_one_chain() and shown(stage.provider.lookup("no")) == b"key"
 
 
 def test_order(program: str) -> None:

@@ -10,12 +10,12 @@ from unittest import mock
 from bodies import is_evidence
 from memory_log import MemoryLog
 from one_chain import Stage, staged
-from stand_ins import POLICY, index, opened
+from stand_ins import POLICY, index, opened, replicated
 from raising import raises
 from coniks import Head
 from coniks.guard import RecordFailed
 from coniks.provider import LogBehind, LogForked, NoDirectory, Provider, Register, RestartNeeded, SignerFailed
-from coniks.provider import entries
+from coniks.provider import entries, Settings
 from coniks.replica import Replica
 
 
@@ -58,7 +58,7 @@ class Past(Stage):
         [self.four], self.five = self.given_up(), self.provider.pending.body
 
     def replica(self, **more: Any) -> Replica:
-        return Replica(MemoryLog(self.lines), self.program, index, **self.more, **more)
+        return replicated(MemoryLog(self.lines), self.program, index, **self.more, **more)
 
 
 @contextmanager
@@ -187,7 +187,7 @@ def test_order(program: str) -> None:
         own.restart()
         assert own.latest().epoch == 2 and other.latest().epoch == 3, "order: a restart beside a commit"
         own.close()
-        replica = Replica(log, program, index, policy=POLICY, workers=1)
+        replica = Replica(Settings(program, index, POLICY, workers=1), log)
         replica.follow()
         with mock.patch.object(log, "wait", return_value=0):
             armed()

@@ -16,11 +16,11 @@ from unittest import mock
 import pytest
 
 from snapshots import Stage, fill, refused, seen, staged
-from stand_ins import HERE, POLICY, Salted, Signer, guarded, index, opened, shown, small_disk
+from stand_ins import HERE, POLICY, Salted, Signer, guarded, index, opened, shown, small_disk, provided
 from raising import raises
 from coniks import Head, provider
 from coniks.provider import Change, DirectoryExists, FileLog, LinesDropped, LogBehind, LogFailed, LogRefused, Overtaken
-from coniks.provider import ProgramFailed, Provider, Register, SnapshotDiffers, entries
+from coniks.provider import ProgramFailed, Register, SnapshotDiffers, entries
 
 
 Altered = Iterator[tuple[str, Sequence[bytes]]]
@@ -695,8 +695,8 @@ def test_openings(program: str) -> None:
         it.log = FileLog(it.path)
         settings: dict[str, Any] = {"policy": POLICY, "verify": it.signer.verify, "nonce": bytes([5]) * 32}
         other: Callable[[str], bytes] = lambda name: sha256(name.encode()).digest()
-        raises("openings: another VRF", provider.OtherIndex, lambda: Provider(program, other, it.signer, it.log, **settings))
-        with Provider(program, index, it.signer, it.log, **settings) as own:
+        raises("openings: another VRF", provider.OtherIndex, lambda: provided(program, other, it.signer, it.log, **settings))
+        with provided(program, index, it.signer, it.log, **settings) as own:
             assert own.latest().epoch == 3, "openings: the right VRF"
 
 
@@ -821,3 +821,17 @@ def test_places() -> None:
             whole.append(b"more %d" % first * 100_000)
             log.append(len(whole) - 1, whole[-1])
         log.close()
+
+
+def test_names_of_all_kinds(program: str, tmp_path: Path) -> None:
+    """Names that JSON writes in several ways are the same after a snapshot, and in a log from which lines were dropped."""
+    names = ["alice", 'ö "\\ \x00\u2028 \U0001f600', "\x7f\u00ad\ufeff\u202e", "/</script>", "x" * 255]
+    signer = Signer(str(tmp_path), Salted())
+    with FileLog.create(tmp_path / "log") as log, opened(program, log, signer) as own:
+        own.commit(1, [Register(it, it.encode()) for it in names])
+        log.drop_before(own.compact())
+        own.commit(2, [Change(names[1], b"2")])
+    with FileLog(tmp_path / "log") as log, opened(program, log, signer) as own:
+        assert [shown(own.lookup(it, 1)) for it in names] == [it.encode() for it in names]
+        own.commit(3, [Change(names[2], b"3")])
+        assert [shown(own.lookup(it)) for it in names] == [names[0].encode(), b"2", b"3", *(it.encode() for it in names[3:])]

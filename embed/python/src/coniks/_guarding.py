@@ -1,0 +1,166 @@
+"""The record of a guard, and the binding of include/coniks_guard.h, whose steps change it. That header and docs/FORMATS.md say what each
+step does. The proved library decides it, and nothing is decided here."""
+
+from __future__ import annotations
+
+import ctypes
+import enum
+import re
+from ctypes import POINTER, byref, c_char_p, c_size_t, c_uint8, c_uint32
+from dataclasses import dataclass
+from typing import Any, Callable, Optional
+
+from . import BODY_LENGTH, ENTRY_LENGTH, _Bytes145, _Exports, _Library
+from ._lines import SIGNATURE_LENGTH
+
+_RECORD = re.compile("coniks-guard 1\n(?:signed ([0-9a-f]{418})\n)?(?:asked ([0-9a-f]{290})\n)?((?:abandoned [0-9a-f]{290}\n)*)")
+
+
+class Refusal(enum.IntEnum):
+    """Why a step is refused, by the numbers of coniks_guard.h."""
+
+    MALFORMED = 112
+    NOTHING_RECORDED = 113
+    BEGINS_UNASKED = 114
+    BEGINS_AGAIN = 115
+    OTHER_POLICY = 116
+    LOG_BEHIND = 117
+    RECORD_BEHIND = 118
+    OTHER_LINK = 119
+    VERSION_BACK = 120
+    NONCE_CHANGED = 121
+    OTHER_OPEN = 122
+    NOT_ASKED = 123
+    MAY_BE_SIGNED = 124
+    RECORD_OLD = 125
+    OTHER_BODIES = 126
+    NO_ENTRY = 127
+    NO_ROOM = 137
+
+
+class StepRefused(Exception):
+    """A step is refused, and the record stays."""
+
+    def __init__(self, refusal: Refusal):
+        super().__init__(refusal)
+        self.refusal = refusal
+
+
+class Said(enum.IntEnum):
+    """What a record says of a body."""
+
+    UNSETTLED = 0
+    SIGNED = 1
+    ABANDONED = 2
+
+
+class Bytes64(ctypes.Structure):
+    _fields_ = [("bytes", c_uint8 * SIGNATURE_LENGTH)]
+
+
+class GuardRecord(ctypes.Structure):
+    _fields_ = [
+        *[("has_entry", c_uint32), ("has_asked", c_uint32)],
+        *[("entry", c_uint8 * ENTRY_LENGTH), ("asked", c_uint8 * BODY_LENGTH)],
+    ]
+
+
+_record, _body, _signature, _size = POINTER(GuardRecord), POINTER(_Bytes145), POINTER(Bytes64), POINTER(c_size_t)
+_bodies, _all_bodies = [_body, c_size_t], [_body, c_size_t, _size]
+_exports: _Exports = [
+    ("coniks_guard_answer", c_uint32, [_record, *_bodies, _body, _signature]),
+    ("coniks_guard_ask", c_uint32, [_record, *_bodies, c_uint32, _body]),
+    ("coniks_guard_sign", c_uint32, [_record, *_all_bodies, c_uint32, _body, _signature]),
+    ("coniks_guard_abandon", c_uint32, [_record, *_all_bodies, _body]),
+    ("coniks_guard_adopt", c_uint32, [_record, *_bodies, c_char_p, c_size_t]),
+]
+library = _Library(_exports)
+
+
+def load() -> None:
+    """Loads the library. Raises ImportError if there is none."""
+    getattr(library, _exports[0][0])
+
+
+def epochs(body: bytes) -> tuple[int, int]:
+    """The epoch before a body, and that of the body. Both are 0 if there is none."""
+    return int.from_bytes(body[9:17], "big"), int.from_bytes(body[1:9], "big")
+
+
+def _body_of(body: bytes) -> _Bytes145:
+    return _Bytes145.from_buffer_copy(body)
+
+
+class _Memory:
+    """A record as the library has it, with room for one abandoned body more."""
+
+    def __init__(self, record: Record):
+        self.room = c_size_t(len(record.abandoned) + 1)
+        self.held = GuardRecord(bool(record.signed), bool(record.asked))
+        self.held.entry[: len(record.signed)] = record.signed
+        self.held.asked[: len(record.asked)] = record.asked
+        self.bodies = (_Bytes145 * self.room.value)(*map(_body_of, record.abandoned))
+        self.count = c_size_t(len(record.abandoned))
+
+    def record(self) -> Record:
+        signed = bytes(self.held.entry) if self.held.has_entry else b""
+        asked = bytes(self.held.asked) if self.held.has_asked else b""
+        return Record(signed, asked, tuple(bytes(it.bytes) for it in self.bodies[: self.count.value]))
+
+
+@dataclass(frozen=True)
+class Record:
+    """The last entry signed, the body that is open, each empty if there is none, and the bodies that are abandoned, after that entry
+    or after the one before it. docs/FORMATS.md defines its text."""
+
+    signed: bytes = b""
+    asked: bytes = b""
+    abandoned: tuple[bytes, ...] = ()
+
+    def __str__(self) -> str:
+        named = [("signed", self.signed), ("asked", self.asked), *(("abandoned", it) for it in self.abandoned)]
+        return "coniks-guard 1\n" + "".join(f"{name} {it.hex()}\n" for name, it in named if it)
+
+    @classmethod
+    def read(cls, text: str) -> Optional[Record]:
+        """Reads a record's text. None if it isn't one."""
+        found = _RECORD.fullmatch(text)
+        if not found:
+            return None
+        signed, asked = (bytes.fromhex(it or "") for it in found.group(1, 2))
+        return cls(signed, asked, tuple(bytes.fromhex(it.split()[1]) for it in found[3].splitlines()))
+
+    def answer(self, body: bytes) -> tuple[Said, bytes]:
+        """What the record says of a body, and the signature that may be returned, empty if there is none."""
+        memory, signature = _Memory(self), Bytes64()
+        said = library.coniks_guard_answer(byref(memory.held), memory.bodies, memory.count, _body_of(body), byref(signature))
+        return Said(said), bytes(signature.bytes) if said == Said.SIGNED else b""
+
+    def ask(self, body: bytes, may_begin: bool) -> Record:
+        """The record after a body was asked for."""
+        return self._after(lambda it: library.coniks_guard_ask(byref(it.held), it.bodies, it.count, may_begin, _body_of(body)))
+
+    def sign(self, body: bytes, signature: bytes, replaces: bool) -> Record:
+        """The record after the signature of a body was stored, which is verified. If `replaces`, the stored one is not valid."""
+        given = Bytes64.from_buffer_copy(signature)
+        return self._after(
+            lambda it: library.coniks_guard_sign(
+                byref(it.held), it.bodies, it.room, byref(it.count), replaces, _body_of(body), given
+            )
+        )
+
+    def abandon(self, body: bytes) -> Record:
+        """The record after a body was abandoned."""
+        return self._after(
+            lambda it: library.coniks_guard_abandon(byref(it.held), it.bodies, it.room, byref(it.count), _body_of(body))
+        )
+
+    def adopt(self, entry: bytes) -> Record:
+        """The record after the last entry that was signed without a guard was adopted."""
+        return self._after(lambda it: library.coniks_guard_adopt(byref(it.held), it.bodies, it.count, entry, len(entry)))
+
+    def _after(self, step: Callable[[_Memory], Any]) -> Record:
+        memory = _Memory(self)
+        if status := step(memory):
+            raise StepRefused(Refusal(status))
+        return memory.record()
