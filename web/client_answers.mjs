@@ -14,16 +14,18 @@ const text = (value) => (value === null ? "-" : String(value));
 const found = (it) => [it.epoch, hex(it.key), text(it.seen), text(it.age), it.firstSeen].join(" ");
 const convicting = (it) => (it === null ? "-" : `${it.kind.replace(" ", "-")} ${hex(it.mine)} ${hex(it.other)}`);
 const all = (word, values) => [word, ...values].join(" ");
-let [client, now] = [null, 0n];
+let [client, now, trust] = [null, 0n, undefined];
 
 /** What both requests that make a client begin with. */
 function begun([time, maxAge, skew, signingKey, vrfKey, policy, ...rest]) {
   [client, now] = [null, seconds(time)];
-  const options = { maxAge: seconds(maxAge), skew: seconds(skew), clock: () => now };
+  const options = { maxAge: seconds(maxAge), skew: seconds(skew), clock: () => now, trust };
+  trust = undefined;
   return { keys: [data(signingKey), data(vrfKey), readPolicy(data(policy))], options, rest };
 }
 
 const headOf = (epoch, link) => ({ epoch: number(epoch), link: data(link) });
+const alarmed = () => all("alarms", client.alarms.map((it) => `${it.epoch}:${it.seen}`));
 const fed = async (entries) => all("fed", (await client.feed(entries)).map((it) => `${it.epoch}:${text(it.seen)}`));
 
 const answers = {
@@ -40,6 +42,7 @@ const answers = {
     return "begun";
   },
   now: (time) => ((now = seconds(time)), "set"),
+  trust: (digest, auditors, faulty) => ((trust = { digest: data(digest), auditors: number(auditors), faulty: number(faulty) }), "set"),
   feed: (...entries) => fed(entries.map(data)),
   catchup: (bytes) => fed(data(bytes)),
   lookup: async (name, reply, epoch) => all("found", [found(await client.lookup(data(name), data(reply), number(epoch)))]),
@@ -53,6 +56,15 @@ const answers = {
   cover: (epoch, link) => client.cover(headOf(epoch, link)),
   evidence: async (entry) => `evidence ${convicting(await client.evidence(data(entry)))}`,
   state: () => `state ${hex(client.state)}`,
+  mark: (auditor, epoch, link) => client.mark(number(auditor), headOf(epoch, link)),
+  confirmed: () => `confirmed ${text(client.confirmed)}`,
+  drop: () => all("dropped", client.drop()),
+  alarms: alarmed,
+  note: (epoch) => (client.note(number(epoch)), alarmed()),
+  report() {
+    const { what, first, last } = client.report();
+    return `report ${what} ${first} ${last}`;
+  },
 };
 
 /** The reply for an error. */

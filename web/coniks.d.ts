@@ -128,6 +128,8 @@ export interface ClientOptions {
   skew?: number | bigint;
   /** Returns the Unix time in seconds, by default that of the platform. */
   clock?: () => number | bigint;
+  /** Of the trust document: its SHA-256, how many auditors it has, and how many of them may be faulty. Without it no epoch is confirmed. */
+  trust?: { digest: Uint8Array; auditors: number | bigint; faulty: number | bigint };
 }
 
 /** What an epoch shows of the watched name: the expected key, or none if none is expected; another key; none though one is expected; no reply yet. */
@@ -136,8 +138,21 @@ export type Watched = "same" | "changed" | "absent" | "missing";
 /** An entry that was accepted. */
 export interface Fed {
   readonly epoch: bigint;
-  /** "missing" if the epoch must show the watched name, until a reply does; else null. */
+  /** "missing" if the epoch must show the watched name, until a reply does; else null. An entry that is signed again has what was seen. */
   readonly seen: Watched | null;
+}
+
+/** An epoch of the watched name that was dropped, and not seen as the same. It is "missing" if it was lost. */
+export interface Alarm {
+  readonly epoch: bigint;
+  readonly seen: "changed" | "absent" | "missing";
+}
+
+/** What a client reports of the watched name (docs/FORMATS.md), and the first and the last epoch that it is about: 0n if it is "unwatched". */
+export interface Report {
+  readonly what: "changed" | "missing" | "lost" | "unwatched" | "unconfirmed" | "good";
+  readonly first: bigint;
+  readonly last: bigint;
 }
 
 /** What an accepted reply shows. It is an object also if the name has no key: look at `key`. */
@@ -157,19 +172,21 @@ export interface Found {
  * A client of one directory, which can't forget a step: it verifies signatures, the chain, VRF proofs, paths and the asked epoch.
  * Bytes are copied when a call begins, and what is returned is a copy or frozen. Calls may be under way at once: each checks and
  * keeps in one step, after what it waits for, and sees what others kept until then. So await `feed` before a lookup that needs it.
- * Wrong arguments are a TypeError or a RangeError. A client can't be copied: pass its state on.
+ * Wrong arguments are a TypeError or a RangeError. A client can't be copied: pass its state on. Times are compared in whole seconds:
+ * fractions of the clock's time, of `maxAge` and of `skew` are dropped.
  */
 export interface Client {
   /**
    * Accepts entries that continue the chain: a catch-up's bytes, or entries. Throws `Refusal` at the first one that does not, and
-   * keeps those before it.
+   * keeps those before it. An entry whose body is signed again takes the place of the latest one. After `PreviousLink` get the latest
+   * entry once more and feed it: it may have been signed again.
    */
   feed(entries: Uint8Array | Iterable<Uint8Array>): Promise<Fed[]>;
   /** Returns what a reply shows of a name, at the asked epoch, or at the latest one. Only an asked epoch may be old. Throws `Refusal`. */
   lookup(name: string | Uint8Array, reply: Uint8Array, epoch?: number | bigint | null): Promise<Found>;
   /**
-   * Returns what a history shows of a name, one for each of its epochs. Throws `Refusal`, and then keeps nothing of it. Epochs in a
-   * row with equal keys have one array.
+   * Returns what a history shows of a name, one for each of its epochs. Throws `Refusal`, and then keeps nothing of it. A key
+   * that the history sends once is one array.
    */
   history(name: string | Uint8Array, history: Uint8Array): Promise<Found[]>;
   /**
@@ -195,14 +212,38 @@ export interface Client {
   compare(head: Head): "equal" | "unknown" | "differs";
   /**
    * Compares an auditor's head, and drops the entries before it if it is equal: the auditor's chain has them. Epochs that are missing
-   * stay, with what follows them.
+   * stay, with what follows them, unless they are lost: of these an alarm stays. A client with `trust` only compares, since one auditor
+   * confirms nothing: call `mark` and `drop`.
    */
   cover(head: Head): "equal" | "unknown" | "differs";
+  /**
+   * Compares a head that an auditor cosigned, and remembers its epoch if they are equal. The auditor is the one at this place of the
+   * trust document, from 0 on. Verify the cosignature first. Throws a RangeError if there is no such auditor.
+   */
+  mark(auditor: number | bigint, head: Head): "equal" | "unknown" | "differs";
+  /** The latest epoch that a quorum of the auditors confirms, null if there is none. */
+  readonly confirmed: bigint | null;
+  /** Returns whether a quorum of the auditors confirms the epoch of what was found. Throws `Refusal` if it is not kept any more. */
+  isRelied(found: Found): boolean;
+  /**
+   * Drops the first epochs: those before the confirmed one, and before the first missing one that is not lost. Returns them. Each watched
+   * one that was not seen as the same leaves an alarm. No reply for a dropped epoch is accepted: ask for missing ones first.
+   */
+  drop(): bigint[];
+  /** The alarms of dropped epochs, until their owner takes note of them. */
+  readonly alarms: Alarm[];
+  /** Takes note of the alarms up to an epoch, which the owner has seen: they are dropped. */
+  note(epoch: number | bigint): void;
+  /** Returns what to report to the owner of the watched name. Throws a RangeError if none is watched. */
+  report(): Report;
   /** Returns what convicts the provider together with another one's entry, or null. Throws `Refusal` if that isn't signed. */
   evidence(entry: Uint8Array): Promise<Evidence | null>;
   /** The entries that are kept, in the order of the chain. */
   readonly entries: Uint8Array[];
-  /** All that the client keeps, to be stored, and given to another one: 70 bytes, 218 for each epoch, and the watched name. */
+  /**
+   * All that the client keeps, to be stored, and given to another one: 110 bytes, 218 for each epoch, 9 for each alarm, 8 for each auditor,
+   * and the watched name.
+   */
   readonly state: Uint8Array;
 }
 
@@ -214,7 +255,7 @@ export interface Library {
   client(signingKey: SigningKey, vrfKey: VrfKey, policy: Policy | Uint8Array, options?: ClientOptions & { state?: Uint8Array | null }): Promise<Client>;
   /**
    * Returns a client whose chain begins with an entry that at least so many auditors have. `heads` has the head of each auditor for
-   * that entry's epoch, by the auditor's name; get each from the auditor itself.
+   * that entry's epoch, by the auditor's name; get each from the auditor itself. With `trust`, call `mark` with each of them afterwards.
    */
   vouched(
     signingKey: SigningKey, vrfKey: VrfKey, policy: Policy | Uint8Array,

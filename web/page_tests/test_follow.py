@@ -145,7 +145,10 @@ def test_follows(visitor: Visitor) -> None:
     assert visitor.open() == "" and visitor.shows("begin") and not visitor.shows("asking")
     visitor.browser.forget()
     visitor.begin()
-    assert not visitor.shows("begin") and visitor.opinions[0] == "2 of your 2 auditors confirm this chain up to epoch 2."
+    assert (
+        not visitor.shows("begin")
+        and visitor.opinions[0] == "2 of your 2 auditors agree with this chain, and a quorum confirms it up to epoch 2."
+    )
     wanted = 'Verified and stored: "alice" has the key "key of alice" in record 1 of its owner at epoch 2.The authentication path'
     assert visitor.look("Alice") == wanted + path_of(visitor)
     assert visitor.opinions[1:] == [f"{it} agrees with this chain up to epoch 2" for it in ["one", "two"]]
@@ -181,7 +184,7 @@ def test_wrong_beginnings(visitor: Visitor) -> None:
         assert "is a number in digits" in visitor.begin(faulty=wrong)
     other = SigningKey(bytes(32)).verify_key
     assert "no point of prime order" not in visitor.begin(client_world.POLICY, one, str(Auditor("two", bytes(other))))
-    assert visitor.opinions[0].startswith("1 of your 2 auditors confirm this chain, and 2 must")
+    assert visitor.opinions[0].startswith("1 of your 2 auditors agree with this chain, and 2 must")
 
 
 HOSTILE = [
@@ -290,7 +293,12 @@ LIES: dict[str, tuple[str, Callable[[World, Any], Reply], str]] = {
     "a redirect": ("/v1/lookup", lambda *_: Reply(b"", 302, {"Location": "/v1/head"}), "gives no reply"),
     "a cut catch-up": ("/v1/entries", lambda world, _: Reply(world[2][:-1]), "CatchUpLength"),
     "an older chain": ("/v1/entries", lambda world, _: Reply(b""), "shows an older chain than before"),
-    "entries that do not rise": ("/v1/entries", lambda world, _: Reply(world[2] + world[1]), "do not rise"),
+    "the latest entry again and again": ("/v1/entries", lambda world, _: Reply(world[2]), "do not rise"),
+    "entries that do not rise": (
+        "/v1/entries",
+        lambda world, _: Reply(world[2] + world[1]),
+        "isn't later than that of the entry before",
+    ),
     "an entry that nobody signed": ("/v1/entries", lambda world, _: Reply(bytes(FORK[2][:145]) + bytes(64)), "Signature"),
 }
 
@@ -345,14 +353,33 @@ def test_notes(visitor: Visitor, document: bytes, sayings: list[str], agreeing: 
         visitor.site.carry(one=document, two=document)
     assert visitor.look("alice").startswith("The directory shows: ") and not visitor.is_verified
     assert "at epoch 2, which too few of your auditors confirm." in visitor.result
-    assert visitor.opinions[0] == f"{agreeing} of your 2 auditors confirm this chain, and 2 must: rely on nothing new."
+    assert visitor.opinions[0] == f"{agreeing} of your 2 auditors agree with this chain, and 2 must: rely on nothing new."
     assert [b.startswith(f"{a} {said}") for a, b, said in zip(["one", "two"], visitor.opinions[1:], sayings)] == [True, True]
     differing = sum("another chain" in it for it in sayings)
-    assert count(visitor.browser, "#opinions .agreed") == 0 and count(visitor.browser, "#alarms > div") == differing
+    assert count(visitor.browser, "#opinions .sum.good") == 0 and count(visitor.browser, "#alarms > div") == differing
     visitor.site.note = note(visitor.site.world, 2)
     visitor.site.lies.pop("/v1/note", None)
     visitor.look("alice")
     assert visitor.is_verified is (differing == 0), "an alarm stays"
+
+
+def test_another_latest_entry(visitor: Visitor) -> None:
+    """Another entry in the place of the latest one convicts the directory, also if nothing follows it."""
+    visitor.begin()
+    visitor.look("alice")
+    visitor.site.lies["/v1/entries"] = lambda query: Reply(FORK[2] if query["after"] == "1" else b"")
+    assert "convict the provider" in visitor.look("alice") and count(visitor.browser, "#alarms > div") == 1
+    visitor.site.lies.clear()
+    assert visitor.look("alice").startswith("The directory shows: ") and not visitor.is_verified, "an alarm stays"
+
+
+def test_withheld_head(visitor: Visitor) -> None:
+    """An auditor that the note of several leaves out is asked for by itself: it may have another chain."""
+    visitor.begin()
+    notes = {"": note(visitor.site.world, 2, "one"), "one": note(visitor.site.world, 2, "one"), "two": note(FORK, 2, "two")}
+    visitor.site.lies["/v1/note"] = lambda query: Reply(notes[query.get("auditor", "")])
+    assert visitor.look("alice") and not visitor.is_verified
+    assert visitor.opinions[2].startswith("two signed another chain at epoch 2") and count(visitor.browser, "#alarms > div") == 1
 
 
 def test_clocks_of_auditors(visitor: Visitor) -> None:
@@ -365,18 +392,32 @@ def test_clocks_of_auditors(visitor: Visitor) -> None:
 
 
 def test_own_heads(visitor: Visitor) -> None:
-    """The chain is confirmed up to the latest epoch that enough auditors have cosigned, or a later one, each by its own head."""
+    """The chain is confirmed up to the latest epoch that enough auditors have cosigned, or a later one, each by its own heads. What an
+    auditor has cosigned stays, also if an earlier note of it is shown."""
     world = visitor.site.world
     visitor.begin()
     visitor.site.commit(3, alice=NEXT)
     later = visitor.site.world
-    for one, two, epoch in [(3, 2, 2), (2, 3, 2), (3, 3, 3)]:
+    for one, two, epoch in [(3, 2, 2), (2, 2, 2), (2, 3, 3), (3, 3, 3)]:
         visitor.site.carry(one=note(later, one, "one", seconds=hour(3)), two=note(later, two, "two", seconds=hour(3)))
         wanted = ['"key of alice"', '"next key"'][epoch - 2]
         assert wanted in visitor.look("alice") and f"at epoch {epoch}." in visitor.result and visitor.is_verified
-        assert visitor.opinions[0] == f"2 of your 2 auditors confirm this chain up to epoch {epoch}."
+        assert visitor.opinions[0] == f"2 of your 2 auditors agree with this chain, and a quorum confirms it up to epoch {epoch}."
     visitor.site.carry(one=note(world, 2, "one"), two=note(world, 2, "two"))
     assert '"next key"' in visitor.look("alice") and visitor.is_verified, "what was confirmed once stays so"
+
+
+def test_heads_that_do_not_count(visitor: Visitor) -> None:
+    """What an auditor cosigned for a time that is to come, or too long ago, confirms no epoch, also once the auditors agree again."""
+    world = visitor.site.world
+    visitor.begin()
+    visitor.site.commit(3, alice=NEXT)
+    for seconds in (4_102_444_800, STALE):
+        heads = {it: note(visitor.site.world, 3, it, seconds=seconds) for it in ("one", "two")}
+        visitor.site.carry(**heads)
+        assert visitor.look("alice") and not visitor.is_verified
+    visitor.site.carry(**{it: note(world, 2, it, seconds=hour(3)) for it in ("one", "two")})
+    assert '"key of alice"' in visitor.look("alice") and "at epoch 2." in visitor.result and visitor.is_verified
 
 
 def test_held_auditors(visitor: Visitor) -> None:
@@ -399,13 +440,27 @@ def test_lying_auditors(visitor: Visitor) -> None:
     visitor.begin(client_world.POLICY, *auditors, faulty="1")
     for _ in range(2):
         assert visitor.look("alice") and not visitor.is_verified
-        assert visitor.opinions[0] == "3 of your 5 auditors confirm this chain, and 4 must: rely on nothing new."
+        assert visitor.opinions[0] == "3 of your 5 auditors agree with this chain, and 4 must: rely on nothing new."
         visitor.open()
         assert visitor.browser.value("document.getElementById('lying').value") == "1"
     assert "more than three auditors are needed for each one that may lie" in visitor.press("trust", lying="2")
     visitor.press("trust", lying="0")
-    assert visitor.opinions[0] == "3 of your 5 auditors confirm this chain up to epoch 2."
+    assert visitor.opinions[0] == "3 of your 5 auditors agree with this chain, and a quorum confirms it up to epoch 2."
     assert visitor.look("alice") and visitor.is_verified
+
+
+def test_more_must_agree(visitor: Visitor) -> None:
+    """If more auditors must agree than before, an epoch that was confirmed may not be any more, also that of an accepted key."""
+    names = ["one", "two", "three", "four", "five"]
+    auditors = [str(Auditor(it, bytes(KEYS[it].verify_key))) for it in names]
+    visitor.begin(client_world.POLICY, *auditors, faulty="0")
+    visitor.site.commit(3, alice=NEXT)
+    epochs = dict(zip(names, [3, 3, 3, 2]))
+    visitor.site.carry(**{it: note(visitor.site.world, epoch, it, seconds=hour(3)) for it, epoch in epochs.items()})
+    assert '"next key"' in visitor.look("alice") and "at epoch 3." in visitor.result and visitor.is_verified
+    visitor.press("trust", lying="1")
+    assert visitor.opinions[0] == "4 of your 5 auditors agree with this chain, and a quorum confirms it up to epoch 2."
+    assert "at epoch 3, which too few of your auditors confirm." in visitor.look("alice") and not visitor.is_verified
 
 
 def test_no_auditors(visitor: Visitor) -> None:
@@ -462,6 +517,8 @@ CHANGES = {
     "empty": "it => new Uint8Array(0)",
     "no bytes": "it => 'kept'",
     "another state": """it => { const kept = JSON.parse(new TextDecoder().decode(it.slice(32))); kept.state = kept.state.slice(0, -2) + '00';
+        const text = new TextEncoder().encode(JSON.stringify(kept)); return bytes_.joined(sha256_.sha256(text), text); }""",
+    "no state": """it => { const kept = JSON.parse(new TextDecoder().decode(it.slice(32))); kept.state = 'state';
         const text = new TextEncoder().encode(JSON.stringify(kept)); return bytes_.joined(sha256_.sha256(text), text); }""",
 }
 
@@ -538,7 +595,7 @@ def test_slow_tab(visitor: Visitor) -> None:
     visitor.site.lies["/v1/lookup"] = once
     found = visitor.browser.value(
         """(async () => {
-            const coniks = await coniks_.Coniks.of(bytes_.fromBase64(document.getElementById('module').textContent.trim()));
+            const coniks = await coniks_.Coniks.of(await packed_.unpacked(document.getElementById('module').textContent));
             const ask = async target => { const found = await fetch(target); return { status: found.status, body: new Uint8Array(await found.arrayBuffer()) }; };
             const other = new following_.Follower(coniks, keeping_.browserStore, ask);
             let isFirst = true;

@@ -63,7 +63,7 @@ def test_served(anywhere: Browser, audited: tuple[Running, list[Auditing]]) -> N
 
     def agreed() -> bool:
         said = press(anywhere, "look", name="ALICE")
-        return '"alice" has the key "key of alice"' in said and count(anywhere, "#opinions .agreed") == 1
+        return '"alice" has the key "key of alice"' in said and count(anywhere, "#opinions .sum.good") == 1
 
     until(agreed, 120)
     assert count(anywhere, "#alarms > div") == 0

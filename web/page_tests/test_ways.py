@@ -143,7 +143,7 @@ def test_verdicts(browser: Browser, keydir: str, lines: Sequence[samples.Line], 
     said = samples.run(keydir, "check", input="".join(f"{it}\n" for it in asked).encode()).stdout.splitlines()
     found = browser.value(
         f"""(async lines => {{
-            const coniks = await coniks_.Coniks.of(Uint8Array.from(atob(document.getElementById("module").textContent.trim()), it => it.charCodeAt(0)));
+            const coniks = await coniks_.Coniks.of(await packed_.unpacked(document.getElementById("module").textContent));
             const reading = new reading_.Reading(coniks, {{ kind: "none", key: null, signatures: null, indices: null }});
             return lines.map(it => {{
                 const object = lines_.objectOf(it);

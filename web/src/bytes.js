@@ -92,3 +92,8 @@ export function joined(...parts) {
 export function bitAt(index, k) {
   return (index[k >> 3] >> (7 - (k & 7))) & 1;
 }
+
+/** @param {Uint8Array} a @param {Uint8Array} b @returns {boolean} */
+export function isSame(a, b) {
+  return a.length === b.length && a.every((it, i) => it === b[i]);
+}

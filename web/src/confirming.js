@@ -1,6 +1,6 @@
 // Up to which epoch a quorum of a user's auditors confirms the chain.
 
-import { BadNote, SKEW, headOf, quorum, readNote, timesOf } from "./notes.js";
+import { BadNote, SKEW, headOf, readNote, timesOf } from "./notes.js";
 
 /** For how many seconds a head counts at least. */
 const RECENT = 600n;
@@ -11,11 +11,10 @@ const RECENT = 600n;
  * `note` is the text that it cosigned, with its lines.
  * @typedef {{name: string, says: "differs" | "agrees" | "ahead" | "later" | "late" | "nothing", epoch: bigint | null, note: string}} Opinion
  *
- * The latest epoch that a quorum confirms, null if there is none; how many auditors are a quorum; and what each says.
- * @typedef {{epoch: bigint | null, least: number, opinions: Opinion[]}} Agreement
+ * Whether a quorum agrees now, and confirms an epoch: the latest one, else null; how many auditors are a quorum; and what each says.
+ * @typedef {{verdict: "unnamed" | "unconfirmed" | "confirmed", epoch: bigint | null, least: number, opinions: Opinion[]}} Agreement
  *
- * @typedef {import("./notes.js").Auditor} Auditor
- * @typedef {{policy: import("./policy.js").Policy, client: import("./client.js").Client, auditors: Auditor[], faulty: number}} Followed
+ * @typedef {{policy: import("./policy.js").Policy, client: import("./client.js").Client, trust: import("./trust.js").Trust}} Followed
  *
  * What the service has: a note by the query of `/v1/note`, and new entries, which the client is fed.
  * @typedef {{note: (query: string) => Promise<Uint8Array>, follow: () => Promise<void>}} Service
@@ -35,20 +34,14 @@ function nothing(name) {
   return { name, says: "nothing", epoch: null, note: "" };
 }
 
-/** The epochs of the auditors that agree, the latest first. @param {Opinion[]} opinions @returns {bigint[]} */
-function agreeing(opinions) {
-  const epochs = opinions.flatMap(({ says, epoch }) => (says === "agrees" && epoch !== null ? [epoch] : []));
-  return epochs.sort((a, b) => (a < b ? 1 : -1));
-}
+/** @param {Opinion} opinion */
+const agrees = ({ says }) => says === "agrees";
 
-/**
- * Up to which epoch the auditors confirm the chain: each one does up to its own head.
- * @param {Opinion[]} opinions @param {number} faulty
- * @returns {Agreement}
- */
-export function agreementOf(opinions, faulty) {
-  const least = opinions.length === 0 ? 0 : quorum(opinions.length, faulty);
-  return { epoch: agreeing(opinions)[least - 1] ?? null, least, opinions };
+/** @param {Followed} it @param {Opinion[]} opinions @returns {Agreement} */
+function agreementOf({ client, trust: { least } }, opinions) {
+  const epoch = least > 0 && opinions.filter(agrees).length >= least ? client.confirmed : null;
+  const verdict = least === 0 ? "unnamed" : epoch === null ? "unconfirmed" : "confirmed";
+  return { verdict, epoch, least, opinions };
 }
 
 /**
@@ -57,27 +50,27 @@ export function agreementOf(opinions, faulty) {
  * @returns {Promise<Agreement>}
  */
 export async function agreed(it, service, now) {
-  const { auditors, client, faulty } = it;
-  if (auditors.length === 0) return agreementOf([], 0);
+  const { auditors, least } = it.trust;
+  if (auditors.length === 0) return agreementOf(it, []);
   const carried = await opinionsIn(it, service, now, await service.note(""));
-  const latest = client.entries.slice(-2).map((entry) => new DataView(entry.buffer).getBigUint64(1));
+  const latest = it.client.entries.slice(-2).map((entry) => new DataView(entry.buffer).getBigUint64(1));
   // A service that forks can carry an old note.
-  const isRecent = agreeing(carried).filter((epoch) => latest.includes(epoch)).length >= quorum(auditors.length, faulty);
-  if (isRecent) return agreementOf(carried, faulty);
+  const isRecent = carried.filter((it) => agrees(it) && latest.includes(/** @type {bigint} */ (it.epoch))).length >= least;
+  if (isRecent) return agreementOf(it, carried);
   const own = [];
   for (const [i, { name }] of auditors.entries()) {
     const document = await service.note(`?auditor=${encodeURIComponent(name)}`);
     own.push(weightier((await opinionsIn(it, service, now, document))[i], carried[i]));
   }
-  return agreementOf(own, faulty);
+  return agreementOf(it, own);
 }
 
 /**
- * What each auditor says by a note. A head that is later than the chain is followed first.
+ * What each auditor says by a note. A head that is later than the chain is followed first. The client marks those that agree.
  * @param {Followed} it @param {Service} service @param {bigint} now @param {Uint8Array} document
  * @returns {Promise<Opinion[]>}
  */
-async function opinionsIn({ policy, client, auditors }, service, now, document) {
+async function opinionsIn({ policy, client, trust: { auditors } }, service, now, document) {
   try {
     const note = readNote(document);
     const head = headOf(note, policy);
@@ -87,6 +80,7 @@ async function opinionsIn({ policy, client, auditors }, service, now, document) 
     return auditors.map(({ name }, i) => {
       const says = saysOf(policy, compared, head.epoch, times[i], now);
       if (says === "nothing") return nothing(name);
+      if (says === "agrees") client.mark(i, head);
       const lines = note.lines.filter((it) => it.split(" ")[1] === name);
       return { name, says, epoch: head.epoch, note: says === "differs" ? [note.text, ...lines].join("\n") : "" };
     });

@@ -1,6 +1,7 @@
 // The proved library, as a module of the browser. It alone decides what is accepted.
 
 import { toHex } from "./bytes.js";
+import { Desk } from "./desk.js";
 
 /** @typedef {{status: number, key: Uint8Array | null}} Checked */
 
@@ -15,56 +16,12 @@ export const KINDS = new Map([[1, "overlap"], [2, "other policy"], [3, "malforme
  * @typedef {{version: number, epoch: bigint, previousEpoch: bigint} & Digests} Fields
  */
 
-/** Most bytes of the arguments of a call, together. The memory has at most 4 GiB. */
-const ROOM = 2 ** 32 - 2 ** 24;
-const PAGE = 65536;
-
-/** A place in the module's memory for what one call takes. */
-class Desk {
-  /** @param {WebAssembly.Memory} memory @param {bigint} base */
-  constructor(memory, base) {
-    this.memory = memory;
-    this.base = Number(base);
-    this.at = this.base;
-  }
-
-  clear() {
-    this.at = this.base;
-  }
-
-  /** Throws a RangeError if the memory can't grow so far. @param {number} size @returns {number} the place of that many free bytes */
-  room(size) {
-    const [here, end] = [this.at, this.at + 16 * Math.ceil(size / 16)];
-    if (end > ROOM) throw new RangeError("the arguments of a call have less than 4 GiB together");
-    const missing = end + 16 - this.memory.buffer.byteLength;
-    if (missing > 0) this.memory.grow(Math.ceil(missing / PAGE));
-    this.at = end;
-    return here;
-  }
-
-  /** @param {Uint8Array} bytes @returns {bigint} */
-  put(bytes) {
-    const here = this.room(bytes.length);
-    new Uint8Array(this.memory.buffer).set(bytes, here);
-    return BigInt(here);
-  }
-
-  /** @param {bigint} here @param {number} size @returns {Uint8Array} */
-  take(here, size) {
-    return new Uint8Array(this.memory.buffer).slice(Number(here), Number(here) + size);
-  }
-
-  /** @param {bigint} here @returns {number} */
-  number(here) {
-    return Number(new DataView(this.memory.buffer).getBigUint64(Number(here), true));
-  }
-}
-
 const STATE = 80;
 
 export class Coniks {
-  /** @param {WebAssembly.Instance} instance */
-  constructor(instance) {
+  /** @param {WebAssembly.Module} module @param {WebAssembly.Instance} instance */
+  constructor(module, instance) {
+    this.module = module;
     /** @type {any} */
     this.calls = instance.exports;
     this.desk = new Desk(this.calls.memory, this.calls.__heap_base.value);
@@ -72,8 +29,13 @@ export class Coniks {
 
   /** @param {BufferSource} bytes @returns {Promise<Coniks>} */
   static async of(bytes) {
-    const made = await WebAssembly.instantiate(bytes, {});
-    return new Coniks(/** @type {any} */ (made).instance);
+    const { module, instance } = /** @type {WebAssembly.WebAssemblyInstantiatedSource} */ (await WebAssembly.instantiate(bytes, {}));
+    return new Coniks(module, instance);
+  }
+
+  /** The library with a memory of its own. @returns {Promise<Coniks>} */
+  async another() {
+    return new Coniks(this.module, await WebAssembly.instantiate(this.module, {}));
   }
 
   /**
@@ -180,6 +142,11 @@ export class Coniks {
   body(entry) {
     const read = this.fields(entry);
     return read && { epoch: read.epoch, root: toHex(read.root), nonce: toHex(read.nonce), version: read.version };
+  }
+
+  /** How many of the auditors are a quorum, if `faulty` of them may lie; 0 if there can be none. @param {number} auditors @param {number} faulty @returns {number} */
+  quorum(auditors, faulty) {
+    return Number(this.calls.coniks_core_quorum(BigInt(auditors), BigInt(faulty)));
   }
 
   /** Returns the text of a status. @param {number} status @returns {string} */

@@ -1,13 +1,14 @@
 // The page that follows a service: takes names, and shows what was verified and stored.
 
-import { fromBase64, toHex } from "./bytes.js";
+import { toHex } from "./bytes.js";
 import { Coniks } from "./coniks.js";
 import { drawingOf } from "./draw.js";
 import { element, hashButton, nameBox } from "./elements.js";
 import { Follower, Unusable } from "./following.js";
 import { browserStore } from "./keeping.js";
-import { readRecord } from "./vouching.js";
-import { counting, keyText } from "./words.js";
+import { unpacked } from "./packed.js";
+import { alarmSaying, foundSaying, opinionSaying, sumSaying } from "./sayings.js";
+import { counting } from "./words.js";
 
 /** Entries that are shown, the latest first, and milliseconds that a request may take. */
 const [SHOWN, LONGEST] = [20, 30_000];
@@ -53,73 +54,31 @@ function refused(error) {
 
 // What is shown. Each call is made after what it shows was stored.
 
-/** @type {Record<import("./confirming.js").Opinion["says"], (epoch: bigint | null) => string>} */
-const SAYINGS = {
-  agrees: (epoch) => `agrees with this chain up to epoch ${epoch}`,
-  differs: (epoch) => `signed another chain at epoch ${epoch}: the directory or this auditor lies. Rely on nothing new, and ask the auditor for its entries`,
-  ahead: (epoch) => `has seen epoch ${epoch}, which the service does not show here`,
-  later: (epoch) => `has cosigned epoch ${epoch} for a time that is to come, which does not count: its clock is wrong, or yours`,
-  late: (epoch) => `has cosigned nothing lately, and epoch ${epoch} at last`,
-  nothing: () => "is in no note that the service has: rely on its word only if you ask it yourself",
-};
+/** A paragraph, or an item, of what is said. @param {string} tag @param {string} kind  beside its colour @param {import("./sayings.js").Saying} saying */
+function said(tag, kind, { colour, words }) {
+  return element(tag, [colour, kind].filter(Boolean).join(" "), ...words.map(wordBox));
+}
 
-/** @param {import("./confirming.js").Agreement} agreement @returns {string} */
-function sumOf({ epoch, least, opinions }) {
-  if (least === 0) return "No auditor is named, so nobody notices if others are shown another chain.";
-  const count = counting(opinions.length, "auditor");
-  const agreeing = opinions.filter((it) => it.says === "agrees" && (epoch === null || /** @type {bigint} */ (it.epoch) >= epoch)).length;
-  if (epoch === null) return `${agreeing} of your ${count} confirm this chain, and ${least} must: rely on nothing new.`;
-  return `${agreeing} of your ${count} confirm this chain up to epoch ${epoch}.`;
+/** @param {import("./sayings.js").Word} word @returns {string | HTMLElement} */
+function wordBox(word) {
+  if (typeof word === "string") return word;
+  if ("name" in word) return nameBox(word.name);
+  return "auditor" in word ? element("code", "name", word.auditor) : element("code", "key", word.key);
 }
 
 /** @param {{agreement: import("./confirming.js").Agreement, isAlarmed: boolean}} it */
 function showOpinions({ agreement, isAlarmed }) {
-  const good = isAlarmed ? "" : "good";
-  const items = agreement.opinions.map(({ name, says, epoch }) => element("li", says === "agrees" ? good : "bad", element("code", "name", name), ` ${SAYINGS[says](epoch)}`));
-  const isAgreed = agreement.epoch !== null && !isAlarmed;
-  part("opinions").replaceChildren(element("li", isAgreed ? "good agreed" : "bad", sumOf(agreement)), ...items);
+  const items = agreement.opinions.map((it) => said("li", "", opinionSaying(it, isAlarmed)));
+  part("opinions").replaceChildren(said("li", "sum", sumSaying(agreement, isAlarmed)), ...items);
 }
 
-/** @typedef {Awaited<ReturnType<Follower["lookup"]>>} Found */
-
-/** What a name has: its key, which may be in a record of its owner. @param {Found} found @returns {(string | HTMLElement)[]} */
-function keyWords({ key, isRecord, change, before }) {
-  if (key === null) return [before === null ? "no key" : "no key any more, and no directory removes a name"];
-  const record = isRecord ? readRecord(key) : null;
-  // Another voucher than before is nobody's word that the owner is the same.
-  const whose = record !== null && change !== "unvouched" ? [` in record ${record.number} of its owner`] : [];
-  const words = ["the key ", element("code", "key", keyText(record?.key ?? key, 400)), ...whose];
-  const old = before === null ? null : readRecord(before);
-  if (old === null || change === "same") return words;
-  return [...words, " in place of ", element("code", "key", keyText(old.key, 400)), ...(change === "vouched" ? [", and its owner signed the change"] : [])];
-}
-
-/** What is said of a key on which the user can't rely, beside its epoch. @param {Found} found @returns {string} */
-function doubts({ key, isRecord, change, agreement, isAlarmed }) {
-  const unconfirmed = agreement.least === 0 ? ", which no auditor confirms" : ", which too few of your auditors confirm";
-  const why = [agreement.epoch === null ? `${unconfirmed}.` : "."];
-  if (change === "unvouched" && key !== null) why.push("The owner of the key before did not sign the change: don't use it.");
-  else if (key !== null && !isRecord) why.push(readRecord(key) === null ? "No owner vouches for this key." : "These bytes look like a record of an owner, and are not signed as one.");
-  if (isAlarmed) why.push("Something was found that you must see, above: rely on nothing new.");
-  return why.join(" ");
-}
-
-/** @param {Found} found */
+/** @param {Awaited<ReturnType<Follower["lookup"]>>} found */
 function showFound(found) {
-  const { name, key, epoch, path, change, isGood } = found;
+  const { key, path } = found;
   const drawing = drawingOf({ index: path.index, indexIs: "verified", verdict: { key } }, path);
   const details = element("details", "lookup authentic", element("summary", "", "The authentication path"), drawing);
-  const words = [nameBox(name), " has ", ...keyWords(found), ` at epoch ${epoch}`, isGood ? "." : doubts(found)];
-  const kind = isGood ? "good found" : change === "unvouched" ? "bad found" : "found";
-  part("result").replaceChildren(element("p", kind, isGood ? "Verified and stored: " : "The directory shows: ", ...words), details);
+  part("result").replaceChildren(said("p", "found", foundSaying(found)), details);
   showOpinions(found);
-}
-
-/** What is said of something that the user must see. @param {import("./following.js").Alarm} alarm @returns {(string | HTMLElement)[]} */
-function alarmWords({ kind, who }) {
-  if (kind === "head") return ["The auditor ", element("code", "name", who), " cosigned another chain: the directory or this auditor lies. This convicts nobody alone. Rely on nothing new, and ask the auditor for its entries:"];
-  if (kind === "unvouched") return ["Two replies for ", nameBox(who), " convict this directory: the owner of the key in the first did not sign what the second shows. Keep them, and publish them:"];
-  return ["Two entries that this directory signed convict it. Keep them, and publish them:"];
 }
 
 /** @param {NonNullable<Awaited<ReturnType<Follower["view"]>>>} view */
@@ -127,7 +86,7 @@ function showView({ origin, begun, found, entries, count, faulty }) {
   part("origin").textContent = origin;
   part("alarms").replaceChildren(...found.map((it) => {
     const text = element("pre", "", [it.kind, ...it.parts].join("\n"));
-    return element("div", "contradiction", element("p", "bad", ...alarmWords(it)), text);
+    return element("div", "contradiction", said("p", "", alarmSaying(it)), text);
   }));
   part("lying").value = String(faulty);
   part("count").textContent = counting(count, "auditor");
@@ -199,8 +158,7 @@ async function forget() {
 }
 
 export async function begin() {
-  const module = /** @type {Uint8Array} */ (fromBase64(part("module").textContent.trim()));
-  follower = new Follower(await Coniks.of(module), browserStore, asked);
+  follower = new Follower(await Coniks.of(await unpacked(part("module").textContent)), browserStore, asked);
   part("start").addEventListener("click", () => tried(start));
   part("look").addEventListener("click", () => tried(async () => showFound(await follower.lookup(part("name").value))));
   part("compare").addEventListener("click", () => tried(async () => showOpinions(await follower.follow())));

@@ -3,15 +3,16 @@
 // A call verifies, stores what it has verified, and only then returns it. If another tab has stored something meanwhile, the call is
 // made again over that.
 
-import { fromHex, joined, toHex } from "./bytes.js";
+import { fromHex, isSame, joined, toHex } from "./bytes.js";
 import { Client } from "./client.js";
 import { agreed } from "./confirming.js";
-import { Reader, Refusal, catchUpEntries, isSame, readReply } from "./messages.js";
+import { Refusal } from "./messages.js";
 import { canonical } from "./names.js";
-import { BadNote, quorum, readAuditor } from "./notes.js";
 import { readPolicy } from "./policy.js";
+import { partsOf } from "./replies.js";
 import { Unsupported, indicesOf } from "./schemes.js";
 import { sha256 } from "./sha256.js";
+import { trustOf } from "./trust.js";
 import { nameBytes } from "./values.js";
 import { isSigned, judged, readRecord } from "./vouching.js";
 
@@ -25,19 +26,24 @@ import { isSigned, judged, readRecord } from "./vouching.js";
  * digits, that showed the record which was accepted last.
  * @typedef {{policy: string, auditors: string[], faulty: number, state: string, begun: number, found: Alarm[], seen: [string, string][]}} Kept
  *
- * What was kept, as it is stored, what was made of it, and what a call adds to it.
- * @typedef {{sealed: Uint8Array, kept: Kept, policy: import("./policy.js").Policy, auditors: import("./notes.js").Auditor[], client: Client}} Open
+ * What is made of what is kept.
+ * @typedef {{kept: Kept, policy: import("./policy.js").Policy, trust: import("./trust.js").Trust, client: Client}} Made
  *
- * What is to be told of a name: whether its key is in a record of its owner; what that is to the one that was accepted last, null if
- * there is none; and whether a quorum confirms the epoch, its owner vouches for the key, and nothing is there that the user must see.
- * @typedef {{isRecord: boolean, change: import("./vouching.js").Change | null, isGood: boolean}} Judgement
+ * The same beside the bytes that are stored. A call adds to it.
+ * @typedef {Made & {sealed: Uint8Array}} Open
+ *
+ * What is reported of a name: whether its key is in a record of its owner; what that is to the one that was accepted last, null if
+ * there is none; whether a quorum confirms the epoch; and whether something is there that the user must see. The key is verified if all of
+ * this is good; or it is an unvouched change; or it is what the directory shows.
+ * @typedef {{isRecord: boolean, change: import("./vouching.js").Change | null, isConfirmed: boolean, isAlarmed: boolean}} Findings
+ * @typedef {Findings & {verdict: "verified" | "unvouched" | "shown"}} Judgement
  *
  * @typedef {import("./confirming.js").Agreement} Agreement
  * @typedef {{status: number, body: Uint8Array}} Answer
  * @typedef {import("./lines.js").Lookup} Lookup
  */
 
-const [BODY, PAGE, REPLY, NOTE] = [145, 209_000, 32_768, 65_536];
+const [ENTRY, PAGE, REPLY, NOTE] = [209, 209_000, 32_768, 65_536];
 /** How often a reply is asked for while epochs pass, or a call is made again while other tabs store something. */
 const TRIES = 5;
 
@@ -59,19 +65,11 @@ function keptIn(sealed) {
   return JSON.parse(new TextDecoder().decode(text));
 }
 
-/**
- * The auditors of verifier keys, of whom so many may lie.
- * @param {string[]} keys @param {number} faulty
- * @returns {Promise<import("./notes.js").Auditor[]>}
- */
-async function auditorsOf(keys, faulty) {
-  const auditors = await Promise.all(keys.map(readAuditor));
-  for (const names of [auditors.map((it) => it.name), keys.map((it) => it.replace(/^[^+]*[+][^+]*/, ""))]) {
-    if (new Set(names).size < names.length) throw new BadNote("an auditor is listed twice");
-  }
-  if (auditors.length === 1) throw new BadNote("one auditor can't be compared with another one: name at least two, or none");
-  if (auditors.length > 0) quorum(auditors.length, faulty);
-  return auditors;
+/** @param {Kept} kept @returns {Uint8Array} */
+function stateIn(kept) {
+  const state = fromHex(kept.state);
+  if (state === null) throw new RangeError("the client's state is not hexadecimal digits");
+  return state;
 }
 
 /** @param {Uint8Array} entry @param {number} at @returns {bigint} */
@@ -81,24 +79,14 @@ function numberIn(entry, at) {
 
 /** The epoch and the key of a reply that was accepted, which shows a key. @param {string} reply */
 function shownBy(reply) {
-  const { entry, proof } = readReply(/** @type {Uint8Array} */ (fromHex(reply)));
-  const { end } = partsOf(proof);
+  const { entry, end } = partsOf(/** @type {Uint8Array} */ (fromHex(reply)));
   return { epoch: numberIn(entry, 1), key: "key" in end ? end.key : new Uint8Array(0) };
 }
 
-/**
- * The parts of a proof that was accepted.
- * @param {Uint8Array} proof
- * @returns {Pick<Lookup, "end" | "siblings">}
- */
-function partsOf(proof) {
-  const it = new Reader(proof, "CutInSiblings");
-  const [kind, count] = [it.number(1), it.number(2)];
-  const siblings = Array.from({ length: count }, () => it.take(32));
-  if (kind === 0) return { siblings, end: { kind: "empty" } };
-  if (kind === 1) return { siblings, end: { kind: "other", index: it.take(32), commitment: it.take(32) } };
-  const [opening, name, key] = [it.take(32), it.sized(2), it.sized(4)];
-  return { siblings, end: { kind: "here", name: new TextDecoder().decode(name), key, opening } };
+/** @param {Uint8Array | null} key @param {Findings} findings @returns {Judgement["verdict"]} */
+export function verdictOf(key, { isRecord, change, isConfirmed, isAlarmed }) {
+  if (change === "unvouched") return "unvouched";
+  return isConfirmed && !isAlarmed && (isRecord || key === null) ? "verified" : "shown";
 }
 
 export class Follower {
@@ -128,11 +116,9 @@ export class Follower {
    * @param {string} policy @param {string[]} auditors @param {number} faulty  how many of the auditors may lie
    */
   async begin(policy, auditors, faulty) {
-    const read = readPolicy(utf8.encode(policy));
-    await auditorsOf(auditors, faulty);
-    const client = await Client.of(this.#coniks, read.signingKey, read.vrfKey, read);
-    const begun = Math.floor(this.#clock());
-    const kept = { policy, auditors, faulty, state: toHex(client.state), begun, found: [], seen: [] };
+    const kept = { policy, auditors, faulty, state: "", begun: Math.floor(this.#clock()), found: [], seen: [] };
+    const { client } = await this.#made(kept, null);
+    kept.state = toHex(client.state);
     if (!(await this.#store.replace(null, sealedOf(kept)))) throw new Unusable("this browser follows a directory already: reload the page");
   }
 
@@ -144,8 +130,8 @@ export class Follower {
   /** Changes how many of the auditors may lie. @param {number} faulty @returns {Promise<void>} */
   trust(faulty) {
     return this.#stored(async (it) => {
-      await auditorsOf(it.kept.auditors, faulty);
-      it.kept = { ...it.kept, faulty };
+      const { state } = it.client;
+      Object.assign(it, await this.#made({ ...it.kept, state: toHex(state), faulty }, state));
     });
   }
 
@@ -182,34 +168,37 @@ export class Follower {
       // An epoch that was confirmed once stays so, also while the auditors are late.
       const epoch = agreement.epoch !== null && seen !== null && seen.epoch > agreement.epoch ? seen.epoch : agreement.epoch;
       const { found, answer } = await this.#found(it.client, name, epoch);
-      const judgement = await this.#judged(it, name, found.key, answer.body, agreement);
+      const judgement = await this.#judged(it, name, found, answer.body, agreement);
       return { ...found, name, before: seen && seen.key, path: await this.#path(it, name, answer.body), agreement, ...judgement };
     });
   }
 
   /** The path of a reply that was accepted. @param {Open} it @param {string} name @param {Uint8Array} bytes @returns {Promise<Lookup>} */
   async #path(it, name, bytes) {
-    const reply = readReply(bytes);
-    const { nonce, root } = /** @type {import("./coniks.js").Fields} */ (this.#coniks.fields(reply.entry));
-    const index = /** @type {Uint8Array} */ (await indicesOf(it.policy.vrfKey)(nameBytes(name), reply.vrf));
-    return { index, name, nonce, root, ...partsOf(reply.proof) };
+    const { entry, vrf, siblings, end } = partsOf(bytes);
+    const { nonce, root } = /** @type {import("./coniks.js").Fields} */ (this.#coniks.fields(entry));
+    const index = /** @type {Uint8Array} */ (await indicesOf(it.policy.vrfKey)(nameBytes(name), vrf));
+    return { index, name, nonce, root, siblings, end };
   }
 
   /**
    * Judges what a reply shows, and keeps it: as the record that is accepted, or as what convicts the directory.
-   * @param {Open} it @param {string} name @param {Uint8Array | null} key @param {Uint8Array} reply @param {Agreement} agreement
-   * @returns {Promise<Judgement & {isAlarmed: boolean}>}
+   * @param {Open} it @param {string} name @param {import("./chain.js").Found} found @param {Uint8Array} reply @param {Agreement} agreement
+   * @returns {Promise<Judgement>}
    */
-  async #judged(it, name, key, reply, agreement) {
+  async #judged(it, name, found, reply, agreement) {
+    const { key } = found;
     const [place, seen, record] = [{ policy: it.policy.digest, name }, new Map(it.kept.seen), readRecord(key)];
     const before = seen.get(name);
     const change = before === undefined ? null : await judged(place, shownBy(before).key, key);
     if (before !== undefined && change === "unvouched" && it.policy.recordsVouched) this.#alarm(it, { kind: "unvouched", who: name, parts: [before, toHex(reply)] });
     const isRecord = record !== null && (await isSigned(record, place));
     const isAlarmed = it.kept.found.length > 0;
-    const isGood = agreement.epoch !== null && !isAlarmed && change !== "unvouched" && (isRecord || key === null);
-    if (isGood && isRecord) it.kept = { ...it.kept, seen: [...seen.set(name, toHex(reply))] };
-    return { isRecord, change, isGood, isAlarmed };
+    const isConfirmed = agreement.verdict === "confirmed" && it.client.isRelied(found);
+    const findings = { isRecord, change, isConfirmed, isAlarmed };
+    const verdict = verdictOf(key, findings);
+    if (verdict === "verified" && isRecord) it.kept = { ...it.kept, seen: [...seen.set(name, toHex(reply))] };
+    return { ...findings, verdict };
   }
 
   /** Keeps what the user must see: the first of each kind, and for each name and auditor. @param {Open} it @param {Alarm} alarm */
@@ -222,8 +211,7 @@ export class Follower {
   async #agreed(it) {
     await this.#follow(it.client);
     const service = { note: (/** @type {string} */ query) => this.#note(query), follow: () => this.#follow(it.client) };
-    const { policy, client, auditors, kept } = it;
-    const agreement = await agreed({ policy, client, auditors, faulty: kept.faulty }, service, BigInt(Math.floor(this.#clock())));
+    const agreement = await agreed(it, service, BigInt(Math.floor(this.#clock())));
     for (const { name, says, note } of agreement.opinions) if (says === "differs") this.#alarm(it, { kind: "head", who: name, parts: [note] });
     return agreement;
   }
@@ -271,10 +259,7 @@ export class Follower {
   async #resumed(sealed) {
     try {
       const kept = keptIn(sealed);
-      const policy = readPolicy(utf8.encode(kept.policy));
-      const options = { state: fromHex(kept.state), clock: this.#clock };
-      const client = await Client.of(this.#coniks, policy.signingKey, policy.vrfKey, policy, options);
-      return { sealed, kept, policy, auditors: await auditorsOf(kept.auditors, kept.faulty), client };
+      return { ...(await this.#made(kept, stateIn(kept))), sealed };
     } catch (error) {
       if (error instanceof Unsupported) throw error;
       if (error instanceof Refusal && error.why === "StateVersion") {
@@ -282,6 +267,14 @@ export class Follower {
       }
       throw new Unusable(`what this browser has stored was changed (${/** @type {Error} */ (error).message}): forget it, and begin again`);
     }
+  }
+
+  /** What is made of what is kept: the client begins without a state. @param {Kept} kept @param {Uint8Array | null} state @returns {Promise<Made>} */
+  async #made(kept, state) {
+    const policy = readPolicy(utf8.encode(kept.policy));
+    const trust = await trustOf(this.#coniks, policy.digest, kept.auditors, kept.faulty);
+    const options = { state, clock: this.#clock, trust: trust.ofClient };
+    return { kept, policy, trust, client: await Client.of(this.#coniks, policy.signingKey, policy.vrfKey, policy, options) };
   }
 
   /**
@@ -319,13 +312,13 @@ export class Follower {
     const start = latest === undefined ? 0n : numberIn(latest, 9);
     let after = start;
     for (;;) {
-      const page = catchUpEntries((await this.#got(`/v1/entries?after=${after}`, PAGE)).body);
-      if (page.length === 0) break;
-      for (const entry of page) {
-        if (numberIn(entry, 1) <= after) throw new Unusable("the entries of the service do not rise");
-        after = numberIn(entry, 1);
-      }
-      await client.feed(page.filter((it) => latest === undefined || !isSame(it.subarray(0, BODY), latest.subarray(0, BODY))));
+      const { body } = await this.#got(`/v1/entries?after=${after}`, PAGE);
+      if (body.length === 0) break;
+      const isKnown = latest !== undefined && isSame(body.subarray(0, ENTRY), latest);
+      await client.feed(isKnown ? body.subarray(ENTRY) : body);
+      const epoch = client.head()?.epoch ?? 0n;
+      if (epoch <= after) throw new Unusable("the entries of the service do not rise");
+      after = epoch;
     }
     if (latest !== undefined && after === start) throw new Unusable("the service shows an older chain than before: it is late, or hides epochs");
   }

@@ -1,6 +1,6 @@
 // What the page keeps in the browser's IndexedDB: one value, which several tabs share.
 
-import { isSame } from "./messages.js";
+import { isSame } from "./bytes.js";
 
 const [DATABASE, STORE, KEY] = ["coniks", "kept", "directory"];
 

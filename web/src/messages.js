@@ -1,18 +1,9 @@
-// What a provider's service sends to clients, read from its bytes (docs/FORMATS.md, "Replies to clients"), and why a client refuses it.
-
-import { joined } from "./bytes.js";
+// Why a client refuses what it is given (docs/FORMATS.md, "Replies to clients"), and what its caller must not do.
 
 /**
  * Two signed entries that convict the owner of the signing key: `mine` is one that the client kept, or `other` itself.
  * @typedef {{readonly mine: Uint8Array, readonly other: Uint8Array, readonly kind: string}} Evidence
- *
- * A proof of a history: the kind and the bytes of its end, and its siblings.
- * @typedef {{epoch: bigint, kind: number, end: Uint8Array, siblings: Uint8Array[]}} Step
  */
-
-const ENTRY = 209;
-const DEEPEST = 256;
-const NOT_SENT = 3;
 
 const AGAIN = "ask for it again";
 const OTHER_SERVICE = "ask another service";
@@ -47,8 +38,8 @@ const CAUSES = {
   Stale: [85, "the latest epoch is too old by the policy's clock: feed a catch-up, or alarm"],
   Future: [86, "the latest epoch has not begun by the policy's clock: see whether the clock is right, or alarm"],
   VrfProof: [87, `the VRF proof is not one of this name: ${AGAIN}`],
-  StateLength: [96, `a state has at least 70 bytes: ${RESTORE}`],
-  StateVersion: [97, "the state has another version than 2: take the package that wrote it, or start anew with an auditor's head"],
+  StateLength: [96, `a state has at least 110 bytes: ${RESTORE}`],
+  StateVersion: [97, "the state has another version than 3: take the package that wrote it, or start anew with an auditor's head"],
   StateDamaged: [98, `the state was changed: ${RESTORE}`],
   StatePolicy: [99, "the state is that of another directory: take the one of this policy"],
   StateForm: [100, `the state is not one of docs/FORMATS.md: ${RESTORE}`],
@@ -59,6 +50,26 @@ const CAUSES = {
   VrfKey: [113, "the VRF's key is no point of prime order: take the one of the policy document"],
   PolicyKeys: [114, "the keys are not those of the policy: take both from its document"],
 };
+
+/** What the caller of a client must not do, by the numbers of coniks_core.h. @type {Record<number, (it: Record<string, any>) => string>} */
+const MISUSES = {
+  130: ({ length }) => `a name has 1 to 255 bytes, not ${length}`,
+  131: () => "an expected key has fewer than 2^32 bytes",
+  132: () => "this client watches another name or key: use `expect`, or make another client",
+  133: () => "no name is watched: call `watch` first",
+  134: ({ last }) => `another change is expected by epoch ${last}: expect the next one after it`,
+  135: () => "the new key is the one that is expected already",
+  136: ({ latest }) => `epoch ${latest} is in the chain: expect the new key by a later one`,
+  138: () => "the trust document has no such auditor",
+  141: () => "at least one auditor vouches for an entry",
+  142: () => "at most 64 auditors vouch for an entry",
+  143: () => "a state has room for fewer than 2^32 epochs, changes, alarms and marks",
+};
+
+/** The text of a misuse. @param {number} status @param {Record<string, any>} values @returns {string} */
+export function misuse(status, values) {
+  return MISUSES[status](values);
+}
 
 /** The names by their numbers. */
 const NAMES = new Map(Object.entries(CAUSES).map(([name, [number]]) => [number, name]));
@@ -72,149 +83,11 @@ export class Refusal extends Error {
   constructor(cause, { status = null, evidence = null, text = undefined } = {}) {
     const why = typeof cause === "number" ? NAMES.get(cause) : cause;
     const [number, own] = CAUSES[why];
-    super(text ?? own);
+    super(own ?? text);
     this.name = "Refusal";
     this.why = why;
     this.number = number;
     this.status = number < CAUSES.NoReply[0] ? number : status;
     this.evidence = evidence;
   }
-}
-
-/** Bytes that are taken from the front on. What is cut has one cause at a time. */
-export class Reader {
-  /** @param {Uint8Array} whole @param {string} cut @param {number} at */
-  constructor(whole, cut, at = 0) {
-    this.whole = whole;
-    this.cut = cut;
-    this.at = at;
-  }
-
-  /** @param {number} size @returns {Uint8Array} */
-  take(size) {
-    if (size > this.whole.length - this.at) throw new Refusal(this.cut);
-    this.at += size;
-    return this.whole.subarray(this.at - size, this.at);
-  }
-
-  /** A number of at most 4 bytes. @param {number} size @returns {number} */
-  number(size) {
-    return this.take(size).reduce((number, it) => number * 256 + it, 0);
-  }
-
-  /** A number of 8 bytes. @returns {bigint} */
-  long() {
-    return (BigInt(this.number(4)) << 32n) | BigInt(this.number(4));
-  }
-
-  /** Bytes after their number. @param {number} size @returns {Uint8Array} */
-  sized(size) {
-    return this.take(this.number(size));
-  }
-
-  rest() {
-    return this.take(this.whole.length - this.at);
-  }
-
-  isOver() {
-    return this.at === this.whole.length;
-  }
-}
-
-/** @param {Uint8Array} a @param {Uint8Array} b @returns {boolean} */
-export function isSame(a, b) {
-  return a.length === b.length && a.every((it, i) => it === b[i]);
-}
-
-/**
- * The bytes after the version that a message begins with.
- * @param {Uint8Array} whole @param {string} empty @param {string} other @param {string} cut
- */
-function begun(whole, empty, other, cut) {
-  if (whole.length === 0) throw new Refusal(empty);
-  if (whole[0] !== 1) throw new Refusal(other);
-  return new Reader(whole, cut, 1);
-}
-
-/**
- * The parts of a reply, of which nothing is verified.
- * @param {Uint8Array} whole
- * @returns {{entry: Uint8Array, vrf: Uint8Array, proof: Uint8Array}}
- */
-export function readReply(whole) {
-  const it = begun(whole, "NoReply", "ReplyVersion", "CutInEntry");
-  const entry = it.take(ENTRY);
-  it.cut = "CutInVrf";
-  return { entry, vrf: it.sized(2), proof: it.rest() };
-}
-
-/** The entries of a catch-up. @param {Uint8Array} whole @returns {Uint8Array[]} */
-export function catchUpEntries(whole) {
-  if (whole.length % ENTRY !== 0) throw new Refusal("CatchUpLength");
-  return Array.from({ length: whole.length / ENTRY }, (_, i) => whole.subarray(i * ENTRY, (i + 1) * ENTRY));
-}
-
-/**
- * The parts of a history. All steps are read once, and then again one after another, since together they can be longer than the bytes.
- * @param {Uint8Array} whole @param {string} tooDeep  the text of this error
- * @returns {{vrf: Uint8Array, steps: () => Generator<Step>}}
- */
-export function readHistory(whole, tooDeep) {
-  const it = begun(whole, "NoHistory", "HistoryVersion", "CutInVrf");
-  const [vrf, rest] = [it.sized(2), it.rest()];
-  const steps = () => stepsOf(new Reader(rest, "CutInStep"), tooDeep);
-  for (const _ of steps());
-  return { vrf, steps };
-}
-
-/** @param {Reader} it @param {string} tooDeep @returns {Generator<Step>} */
-function* stepsOf(it, tooDeep) {
-  /** @type {Step} */
-  let step = { epoch: 0n, kind: NOT_SENT, end: new Uint8Array(0), siblings: [] };
-  while (!it.isOver()) {
-    step = readStep(it, step, tooDeep);
-    yield step;
-  }
-}
-
-/** @param {Reader} it @param {Step} before @param {string} tooDeep @returns {Step} */
-function readStep(it, before, tooDeep) {
-  const [epoch, kind, count] = [it.long(), it.number(1), it.number(2)];
-  if (epoch <= before.epoch) throw new Refusal("EpochOrder");
-  // No step but the one before the first is of this kind.
-  if (kind > NOT_SENT || (kind === NOT_SENT && before.kind === NOT_SENT)) throw new Refusal("UnknownEnd");
-  if (count > DEEPEST) throw new Refusal("TooDeep", { text: tooDeep });
-  const siblings = readSiblings(it, count, before.siblings);
-  return kind === NOT_SENT ? { ...before, epoch, siblings } : { epoch, kind, end: readEnd(it, kind, before), siblings };
-}
-
-/** @param {Reader} it @param {number} count @param {Uint8Array[]} before @returns {Uint8Array[]} */
-function readSiblings(it, count, before) {
-  const map = it.take(Math.ceil(count / 8));
-  const bit = (/** @type {number} */ k) => (map[k >> 3] >> (7 - (k & 7))) & 1;
-  for (let k = 0; k < 8 * map.length; k++) {
-    if (k < count ? k >= before.length && bit(k) === 0 : bit(k) === 1) throw new Refusal("SiblingMap");
-  }
-  const siblings = Array.from({ length: count }, (_, k) => (bit(k) === 1 ? it.take(32) : before[k]));
-  if (siblings.some((sibling, k) => bit(k) === 1 && k < before.length && isSame(sibling, before[k]))) throw new Refusal("SiblingRepeated");
-  return siblings;
-}
-
-/** @param {Reader} it @param {number} kind @param {Step} before @returns {Uint8Array} */
-function readEnd(it, kind, before) {
-  const start = it.at;
-  if (kind === 1) it.take(64);
-  if (kind === 2) {
-    it.take(32);
-    it.sized(2);
-    it.sized(4);
-  }
-  const end = it.whole.subarray(start, it.at);
-  if (kind === before.kind && isSame(end, before.end)) throw new Refusal("EndRepeated");
-  return end;
-}
-
-/** The bytes of a step's proof. @param {Step} step @returns {Uint8Array} */
-export function proofOf({ kind, siblings, end }) {
-  return joined(Uint8Array.of(kind, siblings.length >> 8, siblings.length & 255), ...siblings, end);
 }

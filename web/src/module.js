@@ -1,12 +1,11 @@
 // The module for web projects: the calls of the library as functions that throw, classes for an auditor and a monitor, and the client.
 
-import { Client } from "./client.js";
+import { Client, expectedKey } from "./client.js";
 import { Coniks, KINDS } from "./coniks.js";
 import { Refusal } from "./messages.js";
 import { Policy, readPolicy } from "./policy.js";
 import { Unsupported } from "./schemes.js";
 import { bytes, nameBytes, unsigned } from "./values.js";
-import { expectedKey } from "./watch.js";
 
 export { Policy, Refusal, Unsupported, readPolicy };
 

@@ -1,7 +1,7 @@
 // Heads as signed notes, which auditors cosign (docs/FORMATS.md, "Heads of auditors").
 
-import { fromBase64, joined, toHex } from "./bytes.js";
-import { Refusal, isSame } from "./messages.js";
+import { fromBase64, isSame, joined, toHex } from "./bytes.js";
+import { Refusal } from "./messages.js";
 import { signaturesOf } from "./schemes.js";
 import { sha256 } from "./sha256.js";
 
@@ -93,16 +93,4 @@ export async function timesOf({ text, lines }, { name, id, isSigned }) {
     if (await isSigned(utf8.encode(`cosignature/v1\ntime ${time}\n${text}`), data.slice(12))) times.push(time);
   }
   return times;
-}
-
-/**
- * Returns how many of n auditors must agree, if at most f of them lie or are silent: the least k with 2k > n + f. More than f are in
- * any two quorums.
- * @param {number} auditors @param {number} faulty
- * @returns {number}
- */
-export function quorum(auditors, faulty) {
-  const isPossible = Number.isInteger(faulty) && faulty >= 0 && 3 * faulty < auditors;
-  if (!isPossible) throw new RangeError("more than three auditors are needed for each one that may lie");
-  return Math.floor((auditors + faulty) / 2) + 1;
 }

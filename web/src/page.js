@@ -1,14 +1,14 @@
 // The page: takes lines, has them checked a few at a time, and shows the results.
 
-import { bytesOf } from "./bytes.js";
 import { equivocation, twoAnswers } from "./contradictions.js";
 import { Coniks } from "./coniks.js";
 import { pathOf } from "./draw.js";
 import { element, sentence } from "./elements.js";
 import { EXAMPLE, FIELDS, NOT_VERIFIED, keysOf } from "./keys.js";
 import { linesOf } from "./lines.js";
+import { unpacked } from "./packed.js";
 import { Reading } from "./reading.js";
-import { Teller, counted, kindOf, seenWords } from "./rows.js";
+import { CLASSES, Teller, counted, kindOf, seenWords } from "./rows.js";
 import { counting, keyText, nameNote, nameText } from "./words.js";
 
 /**
@@ -85,7 +85,7 @@ function drawn() {
 
 /** @param {Work} work @param {LookupRow} row */
 function lookupItem({ reading, teller }, row) {
-  const made = element("details", `lookup ${reading.stateOf(row)}`);
+  const made = element("details", CLASSES[kindOf(row, reading)]);
   const summary = element("summary", "", sentence("verdict", teller.verdict(row)));
   if ("key" in row.verdict) summary.append(" ", element("code", "key", keyText(row.verdict.key, 80)));
   summary.append(element("span", "standing", teller.standing(row)));
@@ -97,9 +97,8 @@ function lookupItem({ reading, teller }, row) {
 }
 
 /** @param {Work} work @param {Exclude<Row, LookupRow>} row */
-function plainItem({ teller }, row) {
-  const words = teller.plain(row);
-  return element("p", String(words[0]).startsWith("refused") ? "plain refused" : "plain", sentence(row.what === "entry" ? "entry" : "", words));
+function plainItem({ reading, teller }, row) {
+  return element("p", CLASSES[kindOf(row, reading)], sentence(row.what === "entry" ? "entry" : "", teller.plain(row)));
 }
 
 /** @param {Work} work @param {number} from @param {number} to */
@@ -385,8 +384,7 @@ function listen() {
 
 export async function begin() {
   try {
-    const text = part("module").textContent ?? "";
-    coniks = await Coniks.of(bytesOf(atob(text.trim())));
+    coniks = await Coniks.of(await unpacked(part("module").textContent));
   } catch (error) {
     part("unsupported").hidden = false;
     part("reason").textContent = String(error);

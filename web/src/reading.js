@@ -1,13 +1,13 @@
 // Reads what was pasted, line by line. Entries are fed to a client, which keeps those that continue its chain. Lookups are judged
 // when all lines are read, since an entry may come after its lookups.
 
-import { bigEndian, joined, toHex } from "./bytes.js";
-import { Client } from "./client.js";
+import { bigEndian, isSame, joined, toHex } from "./bytes.js";
+import { Chain } from "./chain.js";
 import { Coniks } from "./coniks.js";
 import { SignedEntries } from "./evidence.js";
 import { entryOf, lookupIn, nameBytes, numberOf, objectOf, proofBytes, vrfOf } from "./lines.js";
-import { isSame } from "./messages.js";
 import { indexOf } from "./seal.js";
+import { Verifier } from "./verdicts.js";
 import { FAULTS } from "./words.js";
 
 /**
@@ -26,7 +26,7 @@ import { FAULTS } from "./words.js";
  * @typedef {import("./lines.js").Lookup} Lookup
  * @typedef {{fault: string, member?: string, status?: number} | {answer: "absent"} | {answer: "key", key: Uint8Array}} Verdict
  * @typedef {{what: "lookup", number: number, text: string, name: string | null, epoch: bigint | null, said: bigint | null, entry: Standing | "own", link: string, verdict: Verdict, index: Uint8Array | null, indexIs: IndexKind, isAccepted: boolean}} LookupRow
- * @typedef {{what: "entry", number: number, epoch: bigint | null, said: bigint | null, refusal: {why: string, status: number | null} | null, isSigned: boolean | null}} EntryRow
+ * @typedef {{what: "entry", number: number, epoch: bigint | null, said: bigint | null, isAgain: boolean, refusal: {why: string, status: number | null} | null, isSigned: boolean | null}} EntryRow
  * @typedef {{what: "unproved", name: string | null, said: bigint | null}} UnprovedRow
  * @typedef {{what: "refusal", fault: string}} RefusalRow
  * @typedef {{what: "broken"} | {what: "other"} | {what: "unread", fault: "Json" | "Long"}} PlainRow
@@ -62,9 +62,9 @@ export class Reading {
     this.coniks = coniks;
     this.keys = keys;
     this.signed = new SignedEntries(coniks);
-    /** Made with the policy digest of the first entry that it accepts. @type {Client | null} */
+    /** Made with the policy digest of the first entry that it accepts. @type {Chain | null} */
     this.client = null;
-    /** The epochs of the chain, by the links of their entries. @type {Map<string, bigint>} */
+    /** The epochs of the chain, by the links of their entries: an entry that is signed again has another link. @type {Map<string, bigint>} */
     this.chain = new Map();
     /** The latest epoch of the chain, 0 before the first. */
     this.latest = 0n;
@@ -107,18 +107,25 @@ export class Reading {
   /** @param {Uint8Array} entry @param {boolean | null} isSigned @param {bigint | null} said @returns {Promise<EntryRow>} */
   async fed(entry, isSigned, said) {
     /** @type {EntryRow} */
-    const row = { what: "entry", number: this.rows.length + 1, epoch: this.epochOf(entry), said, refusal: null, isSigned };
+    const row = { what: "entry", number: this.rows.length + 1, epoch: this.epochOf(entry), said, isAgain: false, refusal: null, isSigned };
     try {
-      if (this.client === null && isSigned !== false) this.client = await Client.of(this.coniks, this.keys.signatures ?? UNVERIFIED, this.keys.indices, entry.slice(POLICY, BODY));
+      if (this.client === null && isSigned !== false) this.client = await this.begun(entry);
       if (this.client === null) return { ...row, refusal: { why: "Signature", status: SIGNATURE } };
-      await this.client.feed([entry]);
-      this.latest = /** @type {bigint} */ (row.epoch);
-      this.chain.set(this.coniks.link(entry), this.latest);
-      return row;
+      await this.client.feed(entry);
+      const [before, epoch] = [this.latest, /** @type {bigint} */ (row.epoch)];
+      this.latest = epoch;
+      this.chain.set(this.coniks.link(entry), epoch);
+      return { ...row, isAgain: epoch === before };
     } catch (error) {
       if (this.chain.size === 0) this.client = null;
       return { ...row, refusal: refusalOf(error) };
     }
+  }
+
+  /** A client that has the policy digest of an entry. @param {Uint8Array} entry @returns {Promise<Chain>} */
+  async begun(entry) {
+    const verifier = await Verifier.of(this.keys.signatures ?? UNVERIFIED, this.keys.indices);
+    return Chain.ofDigest(this.coniks, entry.slice(POLICY, BODY), verifier);
   }
 
   /** @param {string} line @param {Record<string, any>} object @param {Uint8Array | null} entry @param {boolean | null} isSigned @returns {LookupRow} */
@@ -194,7 +201,7 @@ export class Reading {
   /** Has the client accept a lookup as a reply. @param {LookupRow} row @param {Lookup} lookup @param {Uint8Array} proof @param {Uint8Array} entry */
   async accept(row, lookup, proof, entry) {
     const reply = joined(Uint8Array.of(VERSION), entry, bigEndian(proof.length, 2), proof, proofBytes(lookup));
-    const found = await /** @type {Client} */ (this.client).lookup(lookup.name, reply, row.epoch);
+    const found = await /** @type {Chain} */ (this.client).lookup(nameBytes(lookup.name), reply, row.epoch);
     row.isAccepted = true;
     row.index = await this.indexBy(lookup, proof);
     row.indexIs = "verified";
@@ -251,7 +258,7 @@ export class Reading {
    */
   *watched(name) {
     const rows = this.accepted(name).filter((it) => this.standing(it) === "chain");
-    const epochs = [...this.chain.values()];
+    const epochs = [...new Set(this.chain.values())];
     let [at, expected, isFirst] = [0, /** @type {Uint8Array | null} */ (null), true];
     for (const row of rows) {
       const epoch = /** @type {bigint} */ (row.epoch);

@@ -111,7 +111,7 @@ export class Teller {
   /** @param {EntryRow} row @returns {string} */
   entry(row) {
     const signature = `${OF_ONE[this.reading.keys.kind]} ${signedWords(this.reading.keys)}`;
-    if (row.refusal === null) return `epoch ${row.epoch} follows in the chain; ${signature}${otherEpoch(row)}`;
+    if (row.refusal === null) return `epoch ${row.epoch} ${row.isAgain ? "is signed again" : "follows in the chain"}; ${signature}${otherEpoch(row)}`;
     const { why, status } = row.refusal;
     return `refused: the entry of epoch ${row.epoch}: ${status === null ? REFUSED[why] ?? why : this.coniks.text(status)}${otherEpoch(row)}`;
   }
@@ -149,6 +149,22 @@ function seenText(it) {
  * How many rows there are of each kind.
  * @typedef {Record<string, number>} Counts
  */
+
+/** What a row counts as, and the class in which it is drawn: its colour. @type {Record<string, string>} */
+export const CLASSES = {
+  authentic: "lookup authentic",
+  forgeable: "lookup forgeable",
+  consistent: "lookup consistent",
+  refused: "lookup refused",
+  followed: "plain",
+  unfollowed: "plain refused",
+  broken: "plain refused",
+  unproved: "plain refused",
+  refusal: "plain",
+  Json: "plain refused",
+  Long: "plain refused",
+  other: "plain",
+};
 
 /** What a row counts as. @param {Row} row @param {Reading} reading @returns {string} */
 export function kindOf(row, reading) {

@@ -31,20 +31,14 @@ export function unsigned(value, bits, what) {
   return number;
 }
 
-/** How often a second is counted: a number of seconds with a fraction is exact then. */
-export const TICKS = 2n ** 52n;
-
-/** A number of seconds as ticks. @param {any} value @param {string} what @returns {bigint} */
-export function ticks(value, what) {
+/** A number of seconds, with or without a fraction. @param {any} value @param {string} what @returns {number | bigint} */
+export function seconds(value, what) {
   if (typeof value !== "bigint" && typeof value !== "number") throw new TypeError(`${what} is no number of seconds`);
   if (!(value >= 0 && value < 2 ** 64)) throw new RangeError(`${what} is at least 0 seconds and less than 2^64`);
-  const whole = BigInt(typeof value === "bigint" ? value : Math.floor(value));
-  return whole * TICKS + BigInt(Math.floor((Number(value) - Number(whole)) * Number(TICKS)));
+  return value;
 }
 
-/** A number of 64 bits in 8 bytes, big-endian. @param {bigint} number @returns {Uint8Array} */
-export function long(number) {
-  const made = new Uint8Array(8);
-  new DataView(made.buffer).setBigUint64(0, number);
-  return made;
+/** Seconds without their fraction. @param {number | bigint} value @returns {bigint} */
+export function whole(value) {
+  return BigInt(typeof value === "bigint" ? value : Math.floor(value));
 }

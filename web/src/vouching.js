@@ -1,8 +1,7 @@
 // Keys that their owners vouch for (docs/FORMATS.md): a name's bytes can be a record that has the owner's key.
 
-import { bigEndian, joined } from "./bytes.js";
+import { bigEndian, isSame, joined } from "./bytes.js";
 import { keyPoint } from "./ecvrf.js";
-import { isSame } from "./messages.js";
 import { signaturesOf } from "./schemes.js";
 import { sha256 } from "./sha256.js";
 import { nameBytes } from "./values.js";

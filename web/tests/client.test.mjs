@@ -92,6 +92,21 @@ test("schemes that fail", async () => {
   same("the rest follows", (await client.feed(entries.slice(2))).length, entries.length - 2);
 });
 
+test("what no scheme is asked for", async () => {
+  const asked = [];
+  const counting = { verify: (/** @type {any[]} */ ...it) => (asked.push(it), true), index: () => new Uint8Array(32) };
+  const client = await begun({ signing: counting, vrf: counting });
+  for (const [what, call, error] of [
+    ["a reply that is cut", () => client.lookup(name, reply.slice(0, 290)), "CutInVrf"],
+    ["a history of another version", () => client.history(name, Uint8Array.of(2)), "HistoryVersion"],
+    ["an entry of 208 bytes", () => client.feed([entries[0].slice(1)]), "EntryLength"],
+    ["a state of another directory", () => begun({ signing: counting, state: new Uint8Array(200).fill(3, 0, 1) }), "StateDamaged"],
+  ]) {
+    await throwing(/** @type {string} */ (what), /** @type {any} */ (call), /** @type {string} */ (error));
+    same(`${what}: no scheme is asked`, asked.length, 0);
+  }
+});
+
 test("calls that wait for each other", async () => {
   // The first signature is verified at last. Calls beside it go on, and its entry is kept once.
   const first = deferred();
@@ -182,6 +197,10 @@ test("what is given is copied", async () => {
   client.watch(...watched);
   zero(watched);
   same("a watched name and key are copied", (await client.lookup(name, reply)).seen, "same");
+  const [late] = buffers(entries.slice(-1));
+  const vouching = library.vouched(policy.signingKey, policy.vrfKey, policy.digest, late, new Map([["one", client.head()]]), 1, { clock });
+  zero([late]);
+  same("a first entry is copied", (await vouching).head(), client.head());
   const state = Buffer.from(client.state);
   const resuming = library.client(policy.signingKey, policy.vrfKey, policy.digest, { clock, state });
   zero([state]);
@@ -190,6 +209,40 @@ test("what is given is copied", async () => {
   const evidence = client.evidence(entry);
   zero([entry]);
   same("another one's entry is copied", await evidence, null);
+});
+
+/** A quorum of three of four auditors. The head is that of the chain, by its entry. */
+test("auditors and their marks", async () => {
+  const digest = new Uint8Array(32).fill(7);
+  const trust = { digest, auditors: 4, faulty: 1 };
+  const client = await fed({ trust });
+  const [head, found] = [client.head(), await client.lookup(name, reply)];
+  digest.fill(0);
+  same("no auditor", [client.confirmed, client.isRelied(found), client.drop()], [null, false, []]);
+  same("two of three", [client.mark(0, head), client.mark(3, head), client.mark(3, head), client.confirmed, client.isRelied(found), client.drop()], ["equal", "equal", "equal", null, false, []]);
+  same("another link", [client.mark(1, { ...head, link: new Uint8Array(32) }), client.confirmed], ["differs", null]);
+  same("a quorum", [client.mark(2n, head), client.confirmed, client.isRelied(found)], ["equal", head.epoch, true]);
+  same("one head drops nothing", [client.cover(head), client.entries.length], ["equal", entries.length]);
+  const { state } = client;
+  for (const [what, named, confirmed] of [["the same", { ...trust, digest: new Uint8Array(32).fill(7) }, head.epoch], ["another one", trust, null], ["none", null, null]]) {
+    same(`a state under a trust document: ${what}`, (await begun({ state, trust: named })).confirmed, confirmed);
+  }
+  const dropped = client.drop();
+  same("a quorum drops what is before", [dropped.length, client.entries.length], [entries.length - 1, 1]);
+  client.watch(name, data(wanted.key), head.epoch);
+  same("an owner's report", client.report(), { what: "missing", first: head.epoch, last: head.epoch });
+  await client.lookup(name, reply);
+  const report = client.report();
+  same("a good report", [report, Object.isFrozen(report), client.alarms], [{ what: "good", first: head.epoch, last: head.epoch }, true, []]);
+});
+
+test("another key than the owner's", async () => {
+  const client = await fed();
+  client.watch(name, new TextEncoder().encode("another key"), 1);
+  await client.lookup(name, reply);
+  const [head, missing] = [client.head(), client.missing];
+  same("it is reported before missing epochs", [client.report().what, missing.length > 0], ["changed", true]);
+  same("missing epochs stay", [client.cover(head), client.missing, client.alarms], ["equal", missing, []]);
 });
 
 test("what is returned is a copy", async () => {

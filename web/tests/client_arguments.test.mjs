@@ -1,6 +1,7 @@
 // Tests of what callers, services and platforms can do wrong to the client: `node --test web/tests/client_arguments.test.mjs`. Policy,
 // reply, history and state are the examples of docs/FORMATS.md.
 
+import assert from "node:assert/strict";
 import { createHash } from "node:crypto";
 import { readFileSync } from "node:fs";
 import { test } from "node:test";
@@ -25,7 +26,7 @@ function example(after) {
 const policy = readPolicy(textBytes(`${example("The keys of this example are").join("\n")}\n`));
 const reply = data(example("The reply for alice at epoch 2").join(""));
 const history = data(example("The history of alice at epochs 1 and 2").join(""));
-const state = data(example("In version `02`, the state of a client that watches alice").join(""));
+const state = data(example("The state of a client without a trust document that watches alice").join(""));
 const entries = [state.slice(37, 246), state.slice(255, 464)];
 const start = Number(policy.epochStart);
 const clock = () => start + 3600 + 60;
@@ -33,6 +34,7 @@ const begun = (more = {}) => library.client(policy.signingKey, policy.vrfKey, po
 const signing = { verify: () => true };
 const vrf = { verify: () => true, index: () => new Uint8Array(32) };
 const key = textBytes("k");
+const key32 = new Uint8Array(32).fill(7);
 
 /** A reply whose bytes were given away. */
 function detached() {
@@ -40,6 +42,9 @@ function detached() {
   structuredClone(given.buffer, { transfer: [given.buffer] });
   return given;
 }
+
+/** No alarms, no trust document and no marks, in a state. */
+const NOTHING = new Uint8Array(40);
 
 /** A state with other bytes, and the digest of them. @param {Uint8Array[]} parts */
 function renewed(...parts) {
@@ -66,11 +71,13 @@ test("the examples of docs/FORMATS.md", async () => {
   same("the missing epochs", timed.missing, [1]);
   const found = await timed.history("alice", history);
   same("the history", found.map((it) => [it.epoch, it.seen, it.age]), [[1, "same", 3660], [2, "same", 60]]);
+  same("a key that the history sends once is one array", found[0].key === found[1].key, true);
   same("the state once more", (await begun({ state })).state, state);
   const expecting = await begun({ state });
   expecting.expect(textBytes("n"), 5);
+  await assert.rejects(async () => expecting.expect(textBytes("o"), 9), /another change is expected by epoch 5:/);
   const changed = expecting.state;
-  same("a change and the digest in the state", changed.subarray(473), data(example("Then it expects the key `n` by epoch 5").join("")));
+  same("a change and the digest in the state", changed.subarray(513), data(example("Then it expects the key `n` by epoch 5").join("")));
   same("the state with a change once more", (await begun({ state: changed })).state, changed);
 });
 
@@ -127,6 +134,9 @@ test("numbers", async () => {
   }
   const texts = JSON.parse(read("embed/texts.json"));
   const client = await begun();
+  await assert.rejects(client.lookup("alice", new Uint8Array(0)), /the reply has no byte: /);
+  client.watch("alice", key);
+  await assert.rejects(async () => client.expect(textBytes("l"), 0), /epoch 0 is in the chain: /);
   for (const [what, call, name, number] of [
     ["an entry", () => client.feed([new Uint8Array(208)]), "ENTRY_LENGTH", 48],
     ["a signature", () => client.feed([Uint8Array.from(entries[0], (it, i) => (i === 208 ? it ^ 1 : it))]), "SIGNATURE", 40],
@@ -144,6 +154,7 @@ test("arguments of other types", async () => {
   const keys = [policy.signingKey, policy.vrfKey, policy];
   const link = new Uint8Array(32);
   const heads = new Map([["a", { epoch: 1, link }]]);
+  const [head, trust] = [client.head(), { digest: link, auditors: 4, faulty: 1 }];
   const vouched = (...more) => library.vouched(...keys, ...more);
   const calls = {
     TypeError: [
@@ -155,6 +166,7 @@ test("arguments of other types", async () => {
       () => client.lookup("alice"), () => client.lookup("alice", detached()), () => client.lookup("alice", hex(reply)), () => client.lookup(7, reply), () => client.lookup(null, reply), () => client.lookup("alice", reply, "2"), () => client.lookup("alice", reply, 1.5), () => client.lookup("alice", reply, true), () => client.lookup("alice", reply, NaN),
       () => client.history("alice", [...history]), () => client.watch("alice", "k"), () => client.watch("alice", undefined), () => client.watch(undefined, key), () => client.watch("alice", key, "1"), () => client.expect(undefined, 9), () => client.expect(textBytes("l"), undefined), () => client.expect(textBytes("l"), 9.5),
       () => client.compare(), () => client.compare(null), () => client.compare({}), () => client.compare({ epoch: 1 }), () => client.compare({ epoch: "1", link }), () => client.compare({ epoch: 1, link: hex(link) }), () => client.cover(undefined),
+      () => begun({ trust: {} }), () => begun({ trust: 7 }), () => begun({ trust: { ...trust, digest: hex(link) } }), () => begun({ trust: { ...trust, faulty: undefined } }), () => client.mark("0", head), () => client.mark(0, null), () => client.isRelied(null), () => client.isRelied({}), () => client.note("1"), () => client.note(),
       () => client.evidence(), () => client.evidence(hex(entries[0])), () => readPolicy(), () => readPolicy("policy coniks-1\n"),
       () => vouched(entries[0], [{ epoch: 1, link }], 1), () => vouched(entries[0], { a: { epoch: 1, link } }, 1), () => vouched(entries[0], new Map([["a", null]]), 1), () => vouched(entries[0], heads, "1"), () => vouched(entries[0], heads, undefined), () => vouched(null, heads, 1), () => vouched(entries[0], heads, 1, { state }),
     ],
@@ -162,8 +174,10 @@ test("arguments of other types", async () => {
       () => begun({ maxAge: -1 }), () => begun({ maxAge: NaN }), () => begun({ skew: Infinity }), () => begun({ skew: 2n ** 64n }), () => client.lookup("\ud800", reply), () => client.watch("a\udc00", key), () => client.lookup("alice", reply, -1), () => client.lookup("alice", reply, 2n ** 64n),
       () => client.compare({ epoch: 1, link: new Uint8Array(31) }), () => client.compare({ epoch: -1, link }), () => client.watch("alice", new Uint8Array(0)), () => client.watch("", key), () => client.watch("a".repeat(256), key), () => client.watch("bob", key), () => client.watch("alice", key, 2),
       () => client.expect(textBytes("l"), 2), () => client.expect(key, 3), () => client.expect(new Uint8Array(0), 3), () => vouched(entries[0], heads, 0), () => vouched(entries[0], heads, 2 ** 32),
-      async () => (await make(...keys, { clock })).expect(key, 9),
+      async () => (await make(...keys, { clock })).expect(key, 9), async () => (await begun()).report(),
+      () => begun({ trust: { ...trust, auditors: 3 } }), () => begun({ trust: { ...trust, auditors: 0, faulty: 0 } }), () => begun({ trust: { ...trust, digest: new Uint8Array(31) } }), () => begun({ trust: { ...trust, auditors: 2 ** 32 } }), () => client.mark(0, head), () => client.mark(2 ** 32, head), () => client.mark(-1, head), () => client.note(-1), () => client.isRelied({ epoch: -1n }),
     ],
+    UnknownEpoch: [() => client.isRelied({ epoch: 9n }), () => client.isRelied({ epoch: 0 })],
     SigningKey: [() => make(new Uint8Array(32), ...keys.slice(1)), () => make(new Uint8Array(31), ...keys.slice(1)), () => make(new Uint8Array(0), ...keys.slice(1))],
     VrfKey: [() => make(keys[0], new Uint8Array(32), policy), () => make(keys[0], new Uint8Array(33), policy)],
     PolicyKeys: [() => make(keys[1], keys[1], policy), () => make(keys[0], keys[0], policy), () => make(keys[0], null, policy)],
@@ -182,18 +196,18 @@ test("arguments of other types", async () => {
   }
 });
 
-/** Seconds with fractions, and bigints, are exact. */
+/** Times are compared in whole seconds, also those that are bigints. An age has the fraction of the clock. */
 test("seconds with fractions, and bigints", async () => {
   const at = async (now, more) => {
     const client = await begun({ state, clock: () => now, ...more });
     return (await thrown(() => client.lookup("alice", reply))) ?? (await client.lookup("alice", reply)).age;
   };
   const begins = start + 3600;
-  same("half a second after maxAge", await at(begins + 60.5, { maxAge: 60 }), "Stale");
-  same("at maxAge with a fraction", await at(begins + 60.5, { maxAge: 60.5 }), 60.5);
-  same("2^-20 seconds after it", await at(begins + 60.5 + 2 ** -20, { maxAge: 60.5 }), "Stale");
-  same("at skew with a fraction", await at(begins - 7.25, { skew: 7.25 }), -7.25);
-  same("2^-20 seconds before it", await at(begins - 7.25 - 2 ** -20, { skew: 7.25 }), "Future");
+  same("half a second after maxAge", await at(begins + 60.5, { maxAge: 60 }), 60.5);
+  same("a second after it", await at(begins + 61, { maxAge: 60.5 }), "Stale");
+  same("2^-20 seconds less", await at(begins + 61 - 2 ** -20, { maxAge: 60.5 }), 61 - 2 ** -20);
+  same("at skew", await at(begins - 7, { skew: 7.25 }), -7);
+  same("2^-20 seconds before it", await at(begins - 7 - 2 ** -20, { skew: 7.25 }), "Future");
   same("bigints", await at(BigInt(begins + 60), { maxAge: 60n, skew: 0n }), 60);
   same("a greater bigint", await at(BigInt(begins + 61), { maxAge: 60n, skew: 0n }), "Stale");
   same("two periods by default", [await at(begins + 7200, {}), await at(begins + 7201, {})], [7200, "Stale"]);
@@ -231,13 +245,37 @@ test("epochs that can no longer be verified", async () => {
   same("never by a digest", (await resumed(kept.digest)).lost, []);
 });
 
+/** A chain of `count` epochs under a policy, whose signatures a scheme accepts. @param {any} given @param {number} count */
+function chainOf(given, count) {
+  const made = [];
+  let previousLink = new Uint8Array(32);
+  for (let epoch = 1; epoch <= count; epoch++) {
+    const body = library.bodyBytes({ version: 1, epoch, previousEpoch: epoch - 1, root: key32, previousLink, nonce: key32, policy: given.digest });
+    made.push(Buffer.concat([body, Buffer.alloc(64, 1)]));
+    previousLink = library.link(made[epoch - 1]);
+  }
+  return made;
+}
+
+/** Two periods may be 2^64 seconds or more. */
+test("long periods", async () => {
+  const text = new TextDecoder().decode(policy.document);
+  for (const period of [2n ** 63n, 2n ** 64n - 1n]) {
+    const long = readPolicy(textBytes(text.replace("epoch-period 3600", `epoch-period ${period}`).replace("epoch-start 1767225600", "epoch-start 0")));
+    const client = await library.client(signing, vrf, long, { clock: () => 7 });
+    const [entry] = chainOf(long, 1);
+    await client.feed([entry]);
+    const shown = Buffer.concat([Uint8Array.of(1), entry, Uint8Array.of(0, 0, 9)]);
+    await throwing(`no epoch is too old: ${period}`, () => client.lookup("alice", shown), "UnknownKind");
+  }
+});
+
 /** What claims to be long is refused at once, without room for it. */
 test("what claims to be long", async () => {
   const client = await begun({ state });
-  const watch = 473;
-  const chain = state.subarray(0, watch);
+  const chain = state.subarray(0, 513);
   const before = process.memoryUsage().arrayBuffers;
-  const seenAs = (/** @type {string} */ seen) => renewed(chain.subarray(0, -1), data(seen), state.subarray(watch, -32));
+  const seenAs = (/** @type {string} */ seen) => renewed(state.subarray(0, 472), data(seen), state.subarray(473, -32));
   same("each other number is a state", await thrown(() => begun({ state: seenAs("04") })), null);
   const header = [chain.subarray(0, 33), data("ffffffff"), chain.subarray(37)];
   for (const [what, given] of [
@@ -264,21 +302,21 @@ test("what claims to be long", async () => {
   await throwing("a pair of surrogates is a name", () => client.lookup("\ud83d\ude00", reply), "VrfProof");
   await throwing("a name of 70,000 bytes", () => client.lookup("a".repeat(70000), reply), "VrfProof");
   same("little memory was taken", process.memoryUsage().arrayBuffers - before < 64e6, true);
-  const wide = renewed(state.subarray(0, 37), ...Array(2).fill(state.subarray(37, 255)), data("00"));
+  const wide = renewed(state.subarray(0, 37), ...Array(2).fill(state.subarray(37, 255)), NOTHING, data("00"));
   await throwing("an entry twice", () => begun({ state: wide }), "StateForm");
 });
 
 /** The first of several errors of a state, in the order of docs/FORMATS.md. */
 test("the first of several errors of a state", async () => {
-  const [other, version, policyOf] = [data("01"), state.subarray(0, 1), state.subarray(1, 33)];
+  const [other, version, policyOf] = [data("02"), state.subarray(0, 1), state.subarray(1, 33)];
   const count = data("ffffffff");
   for (const [what, wanted, given] of [
-    ["length and version", "StateLength", new Uint8Array(69)],
+    ["length and version", "StateLength", new Uint8Array(109)],
     ["version and digest", "StateVersion", Buffer.concat([other, state.subarray(1)])],
     ["digest and policy", "StateDamaged", Buffer.concat([version, new Uint8Array(32), state.subarray(33)])],
-    ["policy and form", "StatePolicy", renewed(version, new Uint8Array(32), count, data("00"))],
-    ["form and chain", "StateForm", renewed(version, policyOf, data("00000001"), new Uint8Array(218), data("03"))],
-    ["chain", "StateChain", renewed(version, policyOf, data("00000001"), new Uint8Array(218), data("00"))],
+    ["policy and form", "StatePolicy", renewed(version, new Uint8Array(32), count, NOTHING, data("00"))],
+    ["form and chain", "StateForm", renewed(version, policyOf, data("00000001"), new Uint8Array(218), NOTHING, data("03"))],
+    ["chain", "StateChain", renewed(version, policyOf, data("00000001"), new Uint8Array(218), NOTHING, data("00"))],
   ]) await throwing(what, () => begun({ state: given }), wanted);
 });
 
@@ -361,4 +399,7 @@ test("a memory that can't grow", async () => {
   await throwing("a reply that has no room", () => client.lookup("alice", Buffer.concat([reply, Buffer.alloc(20_000_000)])), "RangeError");
   same("nothing is kept of it", client.state, state);
   same("the client goes on", (await client.lookup("alice", reply)).key, key);
+  // Arrays that grow leave less room behind than they take.
+  const long = await bounded.client(signing, vrf, policy, { clock });
+  same("many epochs", (await long.feed(chainOf(policy, 4000))).length, 4000);
 });

@@ -1,15 +1,19 @@
 // Tests of the parts of the page that follows a service, without a browser: `node --test web/tests/following.test.mjs`.
 
+import { readFileSync } from "node:fs";
 import { test } from "node:test";
 
-import { agreementOf } from "../src/confirming.js";
+import { Coniks } from "../src/coniks.js";
 import { canonical } from "../src/names.js";
-import { headOf, quorum, readAuditor, readNote, timesOf } from "../src/notes.js";
+import { headOf, readAuditor, readNote, timesOf } from "../src/notes.js";
 import { readPolicy } from "../src/policy.js";
+import { partsOf } from "../src/replies.js";
+import { trustOf } from "../src/trust.js";
 import { isSigned, judged, readRecord } from "../src/vouching.js";
 import { data, read, same, textBytes, throwing } from "../telling.mjs";
 
 const formats = read("docs/FORMATS.md");
+const coniks = await Coniks.of(readFileSync(new URL("../out/coniks.wasm", import.meta.url)));
 
 /** The indented lines of a section that begin with a text, up to a line that is not indented. @param {string} section @param {string} start */
 function example(section, start) {
@@ -90,13 +94,35 @@ test("what bytes are to those before", async () => {
   same("another name's", await judged({ ...place, name: "bob" }, record, next), "unvouched");
 });
 
-test("up to which epoch auditors confirm", () => {
-  const heads = (/** @type {any[]} */ ...epochs) => epochs.map((it) => ({ name: "", note: "", says: typeof it === "bigint" ? "agrees" : it, epoch: typeof it === "bigint" ? it : 9n }));
-  // Each auditor confirms up to its own head. Of n, of whom f may lie, the least k with 2k > n + f.
-  for (const [opinions, faulty, epoch] of [
-    [heads(4n, 5n), 0, 4], [heads(5n, "nothing"), 0, null], [heads(2n, 7n, 5n), 0, 5], [heads(2n, 7n, "late"), 0, 2], [heads("ahead", 7n, "later"), 0, null],
-    [heads(1n, 2n, 3n, 4n), 1, 2], [heads(1n, 2n, 3n, "differs"), 1, 1], [heads(1n, 2n, 3n, 4n, 5n), 0, 3], [heads(1n, 2n, 3n, 4n, 5n), 1, 2], [[], 0, null],
-  ]) same("the epoch", agreementOf(/** @type {any} */ (opinions), /** @type {any} */ (faulty)).epoch, epoch);
+test("the parts of a reply", () => {
+  // Proofs with their bytes, as the program printed them and the library for Python wrote them.
+  const proofs = JSON.parse(read("web/tests/proofs.json"));
+  const kinds = new Set();
+  for (const { proof, bytes } of proofs) {
+    const { end, siblings } = JSON.parse(proof);
+    const { kind, ...parts } = end;
+    if (parts.key !== undefined) parts.key = Buffer.from(parts.key, "base64").toString("hex");
+    const reply = Buffer.concat([Uint8Array.of(1), new Uint8Array(209).fill(2), Uint8Array.of(0, 3, 7, 8, 9), data(bytes)]);
+    const found = partsOf(Uint8Array.from(reply));
+    same("entry and VRF proof", [found.entry, found.vrf, found.siblings], [new Uint8Array(209).fill(2), Uint8Array.of(7, 8, 9), siblings]);
+    same(`the end of kind ${kind}`, Object.fromEntries(Object.entries(found.end).sort()), Object.fromEntries(Object.entries({ kind, ...parts }).sort()));
+    kinds.add(kind);
+  }
+  same("all kinds", [...kinds].sort(), ["empty", "here", "other"]);
+});
+
+test("the example of a trust document", async () => {
+  const lines = example("Heads of auditors", "trust coniks-1").split("\n");
+  const keys = lines.filter((it) => it.startsWith("auditor ")).map((it) => it.slice(8));
+  const wanted = /** @type {string[]} */ (/Its fingerprint is `(.*)`/.exec(formats))[1].replaceAll(" ", "");
+  for (const order of [keys, [...keys].reverse()]) {
+    const { auditors, least, ofClient } = await trustOf(coniks, policy.digest, order, 0);
+    same("its auditors, in its order", [auditors.map((it) => it.name), least], [["audit.example.com", "audit.example.org"], 2]);
+    same("its digest", ofClient, { digest: wanted, auditors: 2, faulty: 0 });
+  }
+  same("no auditors", await trustOf(coniks, policy.digest, [], 0), { auditors: [], least: 0, ofClient: null });
+  for (const [what, given] of [["one auditor", keys.slice(1)], ["an auditor twice", [...keys, keys[0]]]]) await throwing(what, () => trustOf(coniks, policy.digest, given, 0), "BadNote");
+  for (const faulty of [1, 2, 2 ** 53]) await throwing(`${faulty} of two may lie`, () => trustOf(coniks, policy.digest, keys, faulty), "RangeError");
 });
 
 test("keys of auditors", async () => {
@@ -104,6 +130,6 @@ test("keys of auditors", async () => {
   const others = ["PeterNeumann+c74f20a3+ARpc2QcUPDhMQegwxbzhKqiBfsVkmqq/LDE4izWy10TW", "", "a+b", KEY.toUpperCase(), KEY.replace("8ba082b9", "8ba082b8"), ` ${KEY}`];
   for (const wrong of [...others, KEY.replace("audit", "au dit"), `${KEY}AAAA`]) await throwing(`no key: ${wrong}`, () => readAuditor(wrong), "BadNote");
   // The least k with 2k > n + f: two groups of k of n share more than f.
-  for (const [count, faulty, least] of [[2, 0, 2], [3, 0, 2], [4, 0, 3], [4, 1, 3], [5, 1, 4], [7, 1, 5], [7, 2, 5]]) same(`a quorum of ${count}`, quorum(count, faulty), least);
-  for (const [count, faulty] of [[0, 0], [2, 1], [3, 1], [6, 2], [4, -1], [4, 0.5]]) await throwing(`no quorum of ${count}, ${faulty}`, () => quorum(count, faulty), "RangeError");
+  for (const [count, faulty, least] of [[2, 0, 2], [3, 0, 2], [4, 0, 3], [4, 1, 3], [5, 1, 4], [7, 1, 5], [7, 2, 5]]) same(`a quorum of ${count}`, coniks.quorum(count, faulty), least);
+  for (const [count, faulty] of [[0, 0], [2, 1], [3, 1], [6, 2]]) same(`no quorum of ${count}, ${faulty}`, coniks.quorum(count, faulty), 0);
 });

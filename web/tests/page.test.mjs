@@ -232,7 +232,7 @@ test("a memory of 32 bits", () => {
   const memory = { buffer: new ArrayBuffer(65536), grow };
   const taken = (/** @type {bigint[]} */ ...words) => Number(words[6]);
   const exports = { memory, __heap_base: { value: 1000n }, coniks_check: taken };
-  const coniks = new Coniks(/** @type {any} */ ({ exports }));
+  const coniks = new Coniks(/** @type {any} */ (null), /** @type {any} */ ({ exports }));
   const checked = (/** @type {number} */ size) => coniks.check(index, index, index, index, new Uint8Array(size)).status;
   same("proofs that need more of a memory", [10, 70_000, 300_000].map(checked), [10, 70_000, 300_000]);
   same("a memory of whole pages that grew", memory.buffer.byteLength, 5 * 65536);

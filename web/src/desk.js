@@ -1,0 +1,123 @@
+// The memory of a module: at its front what is kept, and after that what one call takes.
+
+/** Most bytes of what is kept and of the arguments of a call, together. The memory has at most 4 GiB. */
+const ROOM = 2 ** 32 - 2 ** 24;
+const PAGE = 65536;
+const WORD = 8;
+
+export class Desk {
+  /** @param {WebAssembly.Memory} memory @param {bigint} base */
+  constructor(memory, base) {
+    this.memory = memory;
+    this.base = Number(base);
+    this.at = this.base;
+  }
+
+  /** Frees what the call before took. */
+  clear() {
+    this.at = this.base;
+  }
+
+  /** Throws a RangeError if the memory can't grow so far. @param {number} size @returns {number} the place of that many free bytes */
+  room(size) {
+    const [here, end] = [this.at, this.at + 16 * Math.ceil(size / 16)];
+    if (end > ROOM) throw new RangeError("the arguments of a call have less than 4 GiB together");
+    const missing = end + 16 - this.memory.buffer.byteLength;
+    if (missing > 0) this.memory.grow(Math.ceil(missing / PAGE));
+    this.at = end;
+    return here;
+  }
+
+  /** The place of zero bytes that stay. @param {number} size @returns {bigint} */
+  keep(size) {
+    this.clear();
+    const here = this.room(size);
+    this.bytes(here, size).fill(0);
+    this.base = this.at;
+    return BigInt(here);
+  }
+
+  /** The place of bytes that stay. @param {Uint8Array} bytes @returns {bigint} */
+  store(bytes) {
+    const here = this.keep(bytes.length);
+    this.bytes(Number(here), bytes.length).set(bytes);
+    return here;
+  }
+
+  /** @param {Uint8Array} bytes @returns {bigint} */
+  put(bytes) {
+    const here = this.room(bytes.length);
+    this.bytes(here, bytes.length).set(bytes);
+    return BigInt(here);
+  }
+
+  /** Puts numbers of 64 bits, the least significant byte first. @param {bigint[]} numbers @returns {bigint} */
+  putWords(numbers) {
+    const [here, view] = [this.room(WORD * numbers.length), new DataView(this.memory.buffer)];
+    numbers.forEach((it, k) => view.setBigUint64(here + WORD * k, it, true));
+    return BigInt(here);
+  }
+
+  /** The bytes at a place, until the memory grows. @param {number} here @param {number} size @returns {Uint8Array} */
+  bytes(here, size) {
+    return new Uint8Array(this.memory.buffer, here, size);
+  }
+
+  /** @param {bigint} here @param {number} size @returns {Uint8Array} */
+  take(here, size) {
+    return this.bytes(Number(here), size).slice();
+  }
+
+  /** @param {bigint} here @param {number} count @returns {bigint[]} */
+  words(here, count) {
+    const view = new DataView(this.memory.buffer);
+    return Array.from({ length: count }, (_, k) => view.getBigUint64(Number(here) + WORD * k, true));
+  }
+
+  /** @param {bigint} here @returns {number} */
+  number(here) {
+    return Number(this.words(here, 1)[0]);
+  }
+}
+
+/** Elements of one size, which calls append and drop. */
+export class Rows {
+  /** @param {Desk} desk @param {number} size */
+  constructor(desk, size) {
+    this.desk = desk;
+    this.size = size;
+    /** Where the number of elements is. */
+    this.count = desk.keep(WORD);
+    this.place = 0n;
+    this.room = 0;
+  }
+
+  get length() {
+    return this.desk.number(this.count);
+  }
+
+  /** Makes room for more elements. The desk is cleared then. @param {number} more */
+  reserve(more) {
+    const needed = this.length + more;
+    if (needed <= this.room) return;
+    const room = Math.max(needed, 2 * this.room);
+    const place = this.desk.keep(room * this.size);
+    this.desk.bytes(Number(place), this.length * this.size).set(this.desk.bytes(Number(this.place), this.length * this.size));
+    [this.place, this.room] = [place, room];
+  }
+
+  /** The bytes of an element. @param {number} k @returns {Uint8Array} */
+  at(k) {
+    return this.desk.bytes(Number(this.place) + this.size * k, this.size);
+  }
+
+  /** What a call takes that changes no number of elements. */
+  get present() {
+    return [this.place, BigInt(this.length)];
+  }
+
+  /** What a call takes that appends or drops: it writes their number. */
+  get all() {
+    return [this.place, BigInt(this.room), this.count];
+  }
+}
