@@ -9,7 +9,10 @@ from typing import Any, Iterable
 HERE = Path(__file__).resolve().parent
 
 # The folders of each program.
-FOLDERS = {"keydir": ["run", "check", "audit", "monitor", "words"], "provider": ["provider", "provider-words"]}
+FOLDERS = {
+    "keydir": ["run", "check", "audit", "monitor", "words"],
+    "provider": ["provider", "provider-words", "replay"],
+}
 KINDS = [".in", ".make", ".out", ".holds", ".words", ".status", ".err", ".turns"]
 
 
@@ -65,7 +68,7 @@ def usual_status(output: bytes) -> int:
     """1 if a line was refused, or the monitor saw another key than the expected one."""
     seen = (b'"seen":"changed"', b'"seen":"absent"')
     lines = output.split(b"\n")
-    refused = any(line.startswith(b'{"fault":') for line in lines)
+    refused = any(line.startswith(b'{"fault":') or b'"refused":{"fault":' in line for line in lines)
     return 1 if refused or any(text in output for text in seen) else 0
 
 

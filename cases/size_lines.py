@@ -1,5 +1,5 @@
 """The lines of `cases/size`, a directory of many names and how many there are of each, those of `cases/restored` and those of
-`cases/full-board`."""
+`cases/epochs`."""
 
 from __future__ import annotations
 
@@ -130,29 +130,27 @@ def with_indices(asked: Iterator[dict[str, Any]]) -> Iterator[dict[str, Any]]:
         yield {**it, "index": index_of(it["name"])}
 
 
-# How many epochs the board of `provider` takes.
-BOARD = 65536
 INDEX, OTHER_INDEX = "22" * 32, "a2" * 32
 
 
-def board_lines() -> Iterator[str]:
-    """The lines of `cases/full-board`: empty epochs up to one less than the board's capacity, one that registers a name, and more."""
+def epoch_lines(count: int) -> Iterator[str]:
+    """The lines of `cases/epochs`: empty epochs, one that registers a name as the last of this count, and more lines."""
     register = {**operation("register", 0, 0), "index": INDEX}
     change = {**operation("change", 0, 1), "index": INDEX}
     yield text_of({"cmd": "open", "nonce": NONCE, "policy": POLICY})
-    for epoch in range(1, BOARD + 1):
-        yield text_of({"cmd": "prepare", "epoch": epoch, "ops": [register] if epoch == BOARD else []})
+    for epoch in range(1, count + 1):
+        yield text_of({"cmd": "prepare", "epoch": epoch, "ops": [register] if epoch == count else []})
         yield text_of({"cmd": "install", "signature": signature(epoch)})
-    yield from map(text_of, lines_on_full_board(change))
+    yield from map(text_of, lines_after(count, change))
 
 
-def lines_on_full_board(change: dict[str, str]) -> Iterator[dict[str, Any]]:
-    """Lines after the last epoch: updates that the board refuses, or an error that comes first; lookups, and the latest."""
-    yield {"cmd": "prepare", "epoch": BOARD + 1, "ops": [change]}
-    yield {"cmd": "prepare", "epoch": BOARD + 1, "nonce": LATER_NONCE, "ops": []}
+def lines_after(count: int, change: dict[str, str]) -> Iterator[dict[str, Any]]:
+    """Lines after the last epoch: updates that are refused, lookups, one more epoch, and the latest."""
     yield {"cmd": "install", "signature": signature(0)}
-    yield {"cmd": "prepare", "epoch": BOARD, "ops": [change]}
-    yield {"cmd": "prepare", "epoch": BOARD + 1, "ops": [{**change, "index": OTHER_INDEX}]}
-    for epoch in (1, BOARD, BOARD + 1):
+    yield {"cmd": "prepare", "epoch": count, "ops": [change]}
+    yield {"cmd": "prepare", "epoch": count + 1, "ops": [{**change, "index": OTHER_INDEX}]}
+    for epoch in (1, count, count + 1):
         yield {"cmd": "lookup", "epoch": epoch, "name": change["name"], "index": INDEX}
+    yield {"cmd": "prepare", "epoch": count + 1, "nonce": LATER_NONCE, "ops": [change]}
+    yield {"cmd": "install", "signature": signature(count + 1)}
     yield {"cmd": "latest"}

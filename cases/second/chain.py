@@ -36,8 +36,8 @@ def body_after(before: Optional[Entry], version: int, epoch: int, root: bytes, n
     return body + (before.link if before else ZEROS) + nonce + policy
 
 
-def audit(entry: Entry, before: Optional[Entry], key: bytes) -> None:
-    """Refuses an entry that doesn't follow the one before it, or none."""
+def check_next(entry: Entry, before: Optional[Entry]) -> None:
+    """Refuses an entry that doesn't follow the one before it, or none, whatever its signature is."""
     if entry.version not in (1, 2):
         raise Fault("Version")
     if before is not None and entry.version < before.version:
@@ -52,6 +52,11 @@ def audit(entry: Entry, before: Optional[Entry], key: bytes) -> None:
         raise Fault("PreviousLink")
     if before is not None and entry.version == 1 and entry.nonce != before.nonce:
         raise Fault("NonceChanged")
+
+
+def audit(entry: Entry, before: Optional[Entry], key: bytes) -> None:
+    """Refuses an entry that doesn't follow the one before it, or none."""
+    check_next(entry, before)
     if entry.signature != demonstration_seal(key, entry.body):
         raise Fault("Verdict")
 

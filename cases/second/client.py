@@ -1,9 +1,10 @@
-"""A client of a directory, from docs/FORMATS.md: what it is fed, what it looks up, what it sees of its own name, and its state."""
+"""A client of a directory, from docs/FORMATS.md: what it is fed, what it looks up, what it sees of its own name and reports of it, which
+epochs its auditors confirm, and its state."""
 
 from __future__ import annotations
 
 from dataclasses import dataclass, replace
-from typing import Any, Callable, Optional, Sequence, TypeVar
+from typing import Any, Callable, Optional, Sequence
 
 import curve
 from bytelists import LONGEST_NAME, ZEROS, number, sha256
@@ -30,6 +31,12 @@ NUMBERS = {
 # What is seen of the watched name, by its number in a state.
 UNWATCHED, SAME, CHANGED, ABSENT, MISSING = 0, 1, 3, 4, 5
 SEEN = {UNWATCHED: None, SAME: "same", CHANGED: "changed", ABSENT: "absent", MISSING: "missing"}
+
+# What an alarm says of its epoch.
+ALARMS = {CHANGED: "changed", ABSENT: "absent", MISSING: "lost"}
+
+# The version of a state, and the bytes of the shortest one.
+VERSION, SHORTEST = 3, 110
 
 Answer = dict[str, Any]
 
@@ -105,12 +112,40 @@ class Watch:
         return in_order and all(old != it.key for old, it in zip(self.keys, self.changes))
 
 
-class Client:
-    # The version of its states, and the bytes of the shortest one.
-    version, shortest = 2, 70
+@dataclass(frozen=True)
+class Alarm:
+    """A dropped epoch of the watched name that was not seen as the same, and what was seen."""
 
+    epoch: int
+    seen: int
+
+
+@dataclass(frozen=True)
+class Trust:
+    """The digest of a trust document, 32 zero bytes without one; the number of its auditors; how many of them are a quorum."""
+
+    digest: bytes = ZEROS
+    auditors: int = 0
+    quorum: int = 0
+
+    @classmethod
+    def of(cls, digest: bytes, auditors: int, faulty: int) -> Trust:
+        """A quorum is the least number of auditors of which any two share one that is not faulty."""
+        if 3 * faulty >= auditors:
+            raise Misuse("too many auditors may be faulty")
+        return cls(digest, auditors, (auditors + faulty) // 2 + 1)
+
+
+class Client:
     def __init__(
-        self, signing_key: bytes, vrf_key: Optional[bytes], policy: bytes, *, max_age: Optional[int] = None, skew: int = 300
+        self,
+        signing_key: bytes,
+        vrf_key: Optional[bytes],
+        policy: bytes,
+        *,
+        max_age: Optional[int] = None,
+        skew: int = 300,
+        trust: Trust = Trust(),
     ) -> None:
         try:
             self.policy = Policy.read(policy)
@@ -120,6 +155,7 @@ class Client:
         self.max_age, self.skew = 2 * self.policy.period if max_age is None else max_age, skew
         self.kept: list[Kept] = []
         self.watched: Optional[Watch] = None
+        self.trust, self.marks, self.alarms = trust, [0] * trust.auditors, list[Alarm]()
         if not curve.is_key(signing_key):
             raise refused("SigningKey")
         if vrf_key is not None and not curve.is_key(vrf_key):
@@ -162,14 +198,29 @@ class Client:
         fed = []
         for whole in entries:
             entry = self.signed(whole)
-            fault = fault_of(entry, self.latest.entry if self.latest else None)
-            if fault:
-                evidence = self.convict(entry)
-                raise refused("Equivocation", NUMBERS[fault], evidence) if evidence else refused(fault)
-            is_watched = self.watched is not None and entry.epoch >= self.watched.since
-            self.kept.append(Kept(entry, now, MISSING if is_watched else UNWATCHED))
-            fed.append([entry.epoch, SEEN[self.kept[-1].seen]])
+            fed.append(self.signed_again(entry) if self.is_signed_again(entry) else self.followed(entry, now))
         return {"fed": fed}
+
+    def followed(self, entry: Entry, now: int) -> list[Any]:
+        """Keeps an entry after the latest one."""
+        fault = fault_of(entry, self.latest.entry if self.latest else None)
+        if fault:
+            evidence = self.convict(entry)
+            raise refused("Equivocation", NUMBERS[fault], evidence) if evidence else refused(fault)
+        is_watched = self.watched is not None and entry.epoch >= self.watched.since
+        self.kept.append(Kept(entry, now, MISSING if is_watched else UNWATCHED))
+        return [entry.epoch, SEEN[self.kept[-1].seen]]
+
+    def is_signed_again(self, entry: Entry) -> bool:
+        """Whether it has the body of the latest entry, and other bytes."""
+        return self.latest is not None and entry.body == self.latest.entry.body and entry.whole != self.latest.entry.whole
+
+    def signed_again(self, entry: Entry) -> list[Any]:
+        """Puts an entry in the place of the latest one. A head of that one is no head of it."""
+        assert self.latest
+        self.latest.entry = entry
+        self.marks = [0 if it == entry.epoch else it for it in self.marks]
+        return [entry.epoch, SEEN[self.latest.seen]]
 
     def begin_with(self, whole: bytes, heads: Sequence[tuple[int, bytes]], least: int, now: int) -> None:
         """Begins with an entry for which at least so many of the heads vouch."""
@@ -194,15 +245,6 @@ class Client:
         is_covered = any(epoch in covered(it.entry) for it in self.kept)
         return {"compare": "differs" if is_covered else "unknown"}
 
-    def cover(self, epoch: int, link: bytes) -> Answer:
-        """Drops the entries before one that an auditor has too, but none that the watched name still needs."""
-        found = self.compare(epoch, link)
-        if found["compare"] == "equal":
-            oldest = min([epoch, *self.missing()["missing"]])
-            self.kept = [it for it in self.kept if it.entry.epoch >= oldest]
-            self.watched = self.watched.without(oldest) if self.watched else None
-        return found
-
     def evidence(self, whole: bytes) -> Answer:
         if len(whole) != ENTRY:
             raise refused("EntryLength")
@@ -210,6 +252,92 @@ class Client:
         if not curve.is_signed(self.signing, entry.body, entry.signature):
             raise refused("Signature")
         return {"evidence": self.convict(entry)}
+
+    # The auditors.
+
+    def mark(self, auditor: int, epoch: int, link: bytes) -> Answer:
+        """Compares the head of an auditor, and remembers it if it is equal."""
+        if auditor >= len(self.marks):
+            raise Misuse("there is no such auditor")
+        found = self.compare(epoch, link)
+        if found["compare"] == "equal":
+            self.marks[auditor] = max(self.marks[auditor], epoch)
+        return {"mark": found["compare"]}
+
+    def confirmed(self) -> Answer:
+        return {"confirmed": self.confirmed_epoch}
+
+    @property
+    def confirmed_epoch(self) -> Optional[int]:
+        """The greatest epoch that a quorum confirms."""
+        reached = sorted(self.marks, reverse=True)[: self.trust.quorum]
+        return reached[-1] or None if reached and len(reached) == self.trust.quorum else None
+
+    # What is dropped, and what is reported.
+
+    def cover(self, epoch: int, link: bytes, now: int) -> Answer:
+        """Drops as if a quorum confirmed the epoch of an equal head. A client that names its auditors only compares it: one of them confirms
+        nothing."""
+        found = self.compare(epoch, link)
+        if found["compare"] == "equal" and not self.trust.auditors:
+            self.dropped(self.droppable(now, epoch))
+        return found
+
+    def drop(self, now: int) -> Answer:
+        """Drops the first epochs that need not stay."""
+        return self.dropped(self.droppable(now, self.confirmed_epoch))
+
+    def dropped(self, gone: Sequence[Kept]) -> Answer:
+        """Drops the first epochs, with an alarm of each that was not seen as the same, and old changes."""
+        self.alarms += [Alarm(it.entry.epoch, it.seen) for it in gone if self.is_watched(it) and it.seen != SAME]
+        self.kept = self.kept[len(gone) :]
+        if self.watched and self.kept:
+            self.watched = self.watched.without(self.kept[0].entry.epoch)
+        return {"cover": [it.entry.epoch for it in gone]}
+
+    def droppable(self, now: int, confirmed: Optional[int]) -> list[Kept]:
+        """The epochs before the first one that must stay. None is dropped if none must."""
+        lost = self.lost(now)["lost"]
+        if confirmed is None:
+            return []
+        must_stay = [it.entry.epoch >= confirmed or (it.seen == MISSING and it.entry.epoch not in lost) for it in self.kept]
+        return self.kept[: must_stay.index(True)] if any(must_stay) else []
+
+    def is_watched(self, kept: Kept) -> bool:
+        return self.watched is not None and kept.entry.epoch >= self.watched.since
+
+    def note(self, epoch: int) -> Answer:
+        """The owner takes note of the alarms up to an epoch."""
+        while self.alarms and self.alarms[0].epoch <= epoch:
+            del self.alarms[0]
+        return self.listed()
+
+    def listed(self) -> Answer:
+        return {"alarms": [[it.epoch, ALARMS[it.seen]] for it in self.alarms]}
+
+    def report(self, now: int) -> Answer:
+        """The first that applies, with the epoch that it is about, or the first and the last of the epochs."""
+        if self.watched is None:
+            raise Misuse("no name is watched")
+        for what, epochs in self.faults(now).items():
+            if epochs:
+                return {"report": [what, epochs[0]]}
+        watched = [it.entry.epoch for it in self.kept if self.is_watched(it)]
+        if not watched:
+            return {"report": ["unwatched"]}
+        is_good = self.confirmed_epoch is not None and watched[-1] <= self.confirmed_epoch
+        return {"report": ["good" if is_good else "unconfirmed", watched[0], watched[-1]]}
+
+    def faults(self, now: int) -> dict[str, list[int]]:
+        """The epochs that are not the same, those of alarms before kept ones, by what is reported of them."""
+        alarms = [(it.epoch, it.seen) for it in self.alarms]
+        kept = [(it.entry.epoch, it.seen) for it in self.kept if self.is_watched(it)]
+        missing, lost = [epoch for epoch, seen in kept if seen == MISSING], self.lost(now)["lost"]
+        return {
+            "changed": [epoch for epoch, seen in [*alarms, *kept] if seen in (CHANGED, ABSENT)],
+            "missing": [it for it in missing if it not in lost],
+            "lost": [epoch for epoch, seen in alarms if seen == MISSING] + [it for it in missing if it in lost],
+        }
 
     # Lookups.
 
@@ -319,22 +447,31 @@ class Client:
 
     @property
     def state(self) -> bytes:
-        body = number(self.version, 1) + self.policy.digest + kept_bytes(self.kept) + watch_bytes(self.watched)
+        alarms = [number(it.epoch, 8) + number(it.seen, 1) for it in self.alarms]
+        marks = [number(it, 8) for it in self.marks]
+        body = number(VERSION, 1) + self.policy.digest + kept_bytes(self.kept)
+        body += number(len(alarms), 4) + b"".join(alarms) + self.trust.digest + number(len(marks), 4) + b"".join(marks)
+        body += watch_bytes(self.watched)
         return body + sha256(body)
 
     def resume(self, state: bytes) -> None:
         it = self.opened(state)
-        kept, watched = kept_of(it), watch_of(it)
-        if not it.is_over() or not all(fits(at, watched) for at in kept):
+        kept, alarms = kept_of(it), alarms_of(it)
+        trust = it.take(32, "StateForm")
+        marks = [it.number(8, "StateForm") for _ in range(it.number(4, "StateForm"))]
+        watched = watch_of(it)
+        if not it.is_over() or not all(fits(at, watched) for at in kept) or not all(is_alarm(at, watched) for at in alarms):
             raise refused("StateForm")
         self.check_chain([at.entry for at in kept])
-        self.kept, self.watched = kept, watched
+        self.kept, self.watched, self.alarms = kept, watched, alarms
+        is_same = trust == self.trust.digest and len(marks) == self.trust.auditors
+        self.marks = marks if is_same else [0] * self.trust.auditors
 
     def opened(self, state: bytes) -> Reader:
         """The parts of a state after its policy digest, up to its own digest."""
-        if len(state) < self.shortest:
+        if len(state) < SHORTEST:
             raise refused("StateLength")
-        if state[0] != self.version:
+        if state[0] != VERSION:
             raise refused("StateVersion")
         if sha256(state[:-32]) != state[-32:]:
             raise refused("StateDamaged")
@@ -384,6 +521,15 @@ def kept_of(it: Reader) -> list[Kept]:
     return [Kept(Entry(it.take(ENTRY, "StateForm")), it.number(8, "StateForm"), it.number(1, "StateForm")) for _ in range(count)]
 
 
+def alarms_of(it: Reader) -> list[Alarm]:
+    return [Alarm(it.number(8, "StateForm"), it.number(1, "StateForm")) for _ in range(it.number(4, "StateForm"))]
+
+
+def is_alarm(alarm: Alarm, watched: Optional[Watch]) -> bool:
+    """Whether there can be such an alarm."""
+    return watched is not None and alarm.epoch >= watched.since and alarm.seen in ALARMS
+
+
 def watch_bytes(watch: Optional[Watch]) -> bytes:
     if watch is None:
         return b"\0"
@@ -410,8 +556,6 @@ def change_of(it: Reader) -> Change:
 
 # Cases: how a client is made, and its steps, as members of a line of cases/client.
 
-OfCase = TypeVar("OfCase", bound=Client)
-
 
 def data(members: Answer, name: str) -> Optional[bytes]:
     value = members.get(name)
@@ -419,21 +563,11 @@ def data(members: Answer, name: str) -> Optional[bytes]:
 
 
 def begun(case: Answer) -> Client:
-    """The client of a case."""
-    return started(case, Client(*keys_of(case), **limits_of(case)))
-
-
-def keys_of(case: Answer) -> tuple[bytes, Optional[bytes], bytes]:
-    """The keys of a case, and its policy document."""
-    return bytes.fromhex(case["signing_key"]), data(case, "vrf_key"), case["policy"].encode()
-
-
-def limits_of(case: Answer) -> dict[str, Any]:
-    return {"max_age": case.get("max_age"), "skew": case.get("skew", 300)}
-
-
-def started(case: Answer, client: OfCase) -> OfCase:
     """The client of a case, which goes on from a state or starts late if the case says so."""
+    trust = case.get("trust")
+    named = Trust.of(bytes.fromhex(trust["digest"]), trust["auditors"], trust["faulty"]) if trust else Trust()
+    keys = bytes.fromhex(case["signing_key"]), data(case, "vrf_key"), case["policy"].encode()
+    client = Client(*keys, max_age=case.get("max_age"), skew=case.get("skew", 300), trust=named)
     state, vouched = data(case, "state"), case.get("vouched")
     if state is not None:
         client.resume(state)
@@ -458,14 +592,24 @@ def stepped(client: Client, step: Answer, now: int) -> Answer:
         return client.watch(bytes.fromhex(step["name"]), data(step, "key"), step.get("since"))
     if do == "expect":
         return client.expect(data(step, "key"), step["by"])
-    if do in ("compare", "cover"):
-        call = client.compare if do == "compare" else client.cover
-        return call(step["epoch"], bytes.fromhex(step["link"]))
     if do == "evidence":
         return client.evidence(bytes.fromhex(step["entry"]))
-    if do == "lost":
-        return client.lost(now)
-    return client.head() if do == "head" else client.missing()
+    if "link" in step:
+        return compared(client, step, now)
+    if do == "note":
+        return client.note(step["epoch"])
+    timed = {"lost": client.lost, "cover": client.drop, "report": client.report}
+    if do in timed:
+        return timed[do](now)
+    return {"head": client.head, "missing": client.missing, "alarms": client.listed, "confirmed": client.confirmed}[do]()
+
+
+def compared(client: Client, step: Answer, now: int) -> Answer:
+    """What a client returns for a head."""
+    epoch, link = step["epoch"], bytes.fromhex(step["link"])
+    if step["do"] == "mark":
+        return client.mark(step["auditor"], epoch, link)
+    return client.compare(epoch, link) if step["do"] == "compare" else client.cover(epoch, link, now)
 
 
 def told(call: Callable[[], Answer]) -> Answer:
@@ -490,17 +634,21 @@ def plain(value: Any) -> Any:
     return str(value) if isinstance(value, int) and abs(value) >= 1 << 53 else value
 
 
+def state_of(case: Answer) -> bytes:
+    """The state of a client after the steps of a case."""
+    client, now = begun(case), case["now"]
+    for step in case["steps"]:
+        now = step.get("now", now)
+        told(lambda: stepped(client, step, now))
+    return client.state
+
+
 def verdicts(case: Answer) -> Answer:
     """All that the client of a case returns: when it is made, for each step, and its state at the end."""
-    return verdicts_of(case, begun, stepped)
-
-
-def verdicts_of(case: Answer, make: Callable[[Answer], OfCase], take: Callable[[OfCase, Answer, int], Answer]) -> Answer:
-    """The same of a client that is made and takes its steps so."""
-    made: list[OfCase] = []
+    made: list[Client] = []
 
     def begin() -> Answer:
-        made.append(make(case))
+        made.append(begun(case))
         return {"begun": True}
 
     answer = told(begin)
@@ -510,5 +658,5 @@ def verdicts_of(case: Answer, make: Callable[[Answer], OfCase], take: Callable[[
     answers = []
     for step in case["steps"]:
         now = step.get("now", now)
-        answers.append(told(lambda: take(client, step, now)))
+        answers.append(told(lambda: stepped(client, step, now)))
     return {"begin": answer, "steps": answers, "state": sha256(client.state).hex()}

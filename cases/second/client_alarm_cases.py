@@ -1,13 +1,11 @@
-"""Cases of clients whose state has version 03: marks of auditors, covers, alarms, reports, states, and a latest entry that is signed
-again."""
+"""Cases of clients: marks of auditors, covers, alarms, reports, states that have them, and a latest entry that is signed again."""
 
 from __future__ import annotations
 
 from typing import Any, Iterator, Optional
 
 from bytelists import link, number, sha256
-from client import Answer, Watch, watch_bytes
-from client_alarms import AlarmClient, begun, stepped
+from client import Answer, Watch, state_of, watch_bytes
 from client_attacks import case, edited, feed, flipped, lookup, resigned
 from client_cases import FIRST_KEY, SECOND_KEY, head, history, vouched, watch
 from client_lost import DAY, DAYS, Directory, end
@@ -75,7 +73,7 @@ def alarms() -> Iterator[Answer]:
     yield from states()
     yield from marked_states()
     for what, state, refusal in [*damaged(), *forged(), *broken()]:
-        yield made(f"state 03: {what}", [], refusal, state=state.hex())
+        yield made(f"state with alarms: {what}", [], refusal, state=state.hex())
 
 
 def marks() -> Iterator[Answer]:
@@ -297,13 +295,7 @@ def again_in_turn() -> Iterator[Answer]:
 
 def state_after(steps: list[Answer], **more: Any) -> bytes:
     """The state of a client after some steps."""
-    it = made("", [], **more)
-    client: AlarmClient = begun(it)
-    now = it["now"]
-    for step in steps:
-        now = step.get("now", now)
-        stepped(client, step, now)
-    return client.state
+    return state_of(made("", steps, **more))
 
 
 # A client with an alarm of a lost epoch and one of another key, which keeps epochs 5 and 6.
@@ -320,29 +312,35 @@ def states() -> Iterator[Answer]:
     """States that are resumed."""
     steps = [ALARMS, CONFIRMED, REPORT, {"do": "missing"}, note(3), report(LATE)]
     told = [LISTED, "confirmed 5", "report changed 3", "missing 6", "alarms", "report changed 5"]
-    yield made("state 03: alarms, marks and all", steps, *told, state=STATE.hex())
+    yield made("state with alarms: alarms, marks and all", steps, *told, state=STATE.hex())
     empty = state_after([])
-    yield made("state 03: of no entry", [ALARMS, CONFIRMED, feed(WORLD[1])], "alarms", "confirmed", "fed 1", state=empty.hex())
+    yield made(
+        "state with alarms: of no entry", [ALARMS, CONFIRMED, feed(WORLD[1])], "alarms", "confirmed", "fed 1", state=empty.hex()
+    )
     shortest = state_after([], trust=None)
     assert len(shortest) == 110
-    yield made("state 03: the shortest one", [feed(WORLD[1])], "fed 1", state=shortest.hex(), trust=None)
+    yield made("state with alarms: the shortest one", [feed(WORLD[1])], "fed 1", state=shortest.hex(), trust=None)
     noted = state_after([*BEGIN, note(2)])
     steps = [ALARMS, *shown(6), mark(0, 6), mark(1, 6), cover(LATE), ALARMS]
     told = ["alarms 3 changed", OTHER, "mark equal", "mark equal", "cover 5", "alarms 3 changed 5 changed"]
-    yield made("state 03: it goes on", steps, *told, state=noted.hex())
+    yield made("state with alarms: it goes on", steps, *told, state=noted.hex())
     again = state_after([*BEGIN, feed(signed(WORLD[6][:145], nonce=7))])
     yield made(
-        "state 03: an entry that was signed again", [feed(WORLD[6]), CONFIRMED], "fed 6 missing", "confirmed 5", state=again.hex()
+        "state with alarms: an entry that was signed again",
+        [feed(WORLD[6]), CONFIRMED],
+        "fed 6 missing",
+        "confirmed 5",
+        state=again.hex(),
     )
     first = edited(STATE, COUNT + 4, number(2**64 - 1, 8))
     yield made(
-        "state 03: an alarm of the last number there is",
+        "state with alarms: an alarm of the last number there is",
         [note(6)],
         f"alarms {2**64 - 1} lost 3 changed",
         state=renewed(first).hex(),
     )
     kinds = edited(STATE, COUNT + 4 + 8, b"\4")
-    yield made("state 03: an alarm of no key", [ALARMS], "alarms 2 absent 3 changed", state=renewed(kinds).hex())
+    yield made("state with alarms: an alarm of no key", [ALARMS], "alarms 2 absent 3 changed", state=renewed(kinds).hex())
 
 
 def marked_states() -> Iterator[Answer]:
@@ -354,10 +352,10 @@ def marked_states() -> Iterator[Answer]:
         ("one auditor less", {**TRUST, "auditors": 3, "faulty": 0}, "confirmed"),
         ("no trust document", None, "confirmed"),
     ]:
-        yield made(f"state 03: {what}", [ALARMS, CONFIRMED], LISTED, wanted, state=STATE.hex(), trust=trust)
+        yield made(f"state with alarms: {what}", [ALARMS, CONFIRMED], LISTED, wanted, state=STATE.hex(), trust=trust)
     none = state_after(BEGIN[:2], trust=None)
     steps = [CONFIRMED, *quorum(5), CONFIRMED]
-    yield made("state 03: a first trust document", steps, "confirmed", *THREE_EQUAL, "confirmed 5", state=none.hex())
+    yield made("state with alarms: a first trust document", steps, "confirmed", *THREE_EQUAL, "confirmed 5", state=none.hex())
 
 
 def damaged() -> Iterator[tuple[str, bytes, str]]:

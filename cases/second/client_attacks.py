@@ -120,7 +120,6 @@ def entries() -> Iterator[Answer]:
         ("a later epoch after none of the chain", resigned(third, 9, number(1, 8)), "Equivocation overlap 2"),
         ("the last epoch again", second, "NotLater"),
         ("the first epoch again", first, "NotLater"),
-        ("the last body with another signature", signed(second[:145], nonce=7), "NotLater"),
         ("another root at the last epoch", resigned(second, 17, sha256(b"root")), "Equivocation overlap 2"),
         ("another root at the first epoch", resigned(first, 17, sha256(b"root")), "Equivocation overlap 1"),
         ("a first entry of all epochs", resigned(first, 1, number(9, 8)), "Equivocation overlap 1"),
@@ -130,6 +129,10 @@ def entries() -> Iterator[Answer]:
         yield case(f"feed: {what}, signed", [two, feed(entry), good], fed, wanted, went_on)
         unsigned = entry[:145] + bytes(64)
         yield case(f"feed: {what}, not signed", [two, feed(unsigned), good], fed, "Signature", went_on)
+    again = [two, feed(signed(second[:145], nonce=7)), good]
+    yield case("feed: the last body with another signature, signed", again, fed, "fed 2", "PreviousLink")
+    forged = [two, feed(second[:145] + bytes(64)), good]
+    yield case("feed: the last body with another signature, not signed", forged, fed, "Signature", went_on)
     yield from sizes(first, second, third)
     rotated = WORLD[6]
     all_of_them = feed(*WORLD.entries())

@@ -7,8 +7,7 @@ from typing import Iterator
 import curve
 from bytelists import commitment, number
 from chain import Entry, body_after
-from client import Client
-from client_alarms import AlarmClient, Trust
+from client import Client, Trust
 from client_world import START, policy_text
 from replies import history, reply
 from tree import node, path
@@ -44,7 +43,7 @@ TRUST = Trust.of(bytes.fromhex("ad32de92b1381c0caed8b03c790600c99592e192cc8f8fc6
 
 def with_alarm() -> bytes:
     """The state of a client that watches alice for another key, and that dropped epoch 1."""
-    client = AlarmClient(curve.public_key(SIGNING), curve.public_key(VRF), POLICY.encode(), trust=TRUST)
+    client = Client(curve.public_key(SIGNING), curve.public_key(VRF), POLICY.encode(), trust=TRUST)
     (first, one), (second, two) = entries([[b"alice"], [b"alice", b"bob"]], client.policy.digest)
     client.watch(b"alice", b"l", 1)
     client.feed([first], START + 60)
@@ -69,7 +68,7 @@ def examples() -> dict[str, bytes]:
     client.lookup(b"alice", replied, None, START + 3660)
     state = client.state
     client.expect(b"n", 5)
-    watched = client.state[37 + 2 * 218 :]
+    watched = client.state[77 + 2 * 218 :]
     return {
         "reply": replied,
         "history": history(vrf, [(1, one), (2, two)]),
@@ -83,7 +82,7 @@ def examples() -> dict[str, bytes]:
 PARTS = {
     "reply": [1, 209, 2, 80, 3, 32, 32, 7, 5],
     "history": [1, 2, 80, 11, 32, 7, 5, 12, 32],
-    "state": [1, 32, 4, 209, 8, 1, 209, 8, 1, 7, 8, 5, 4, 32],
+    "state": [1, 32, 4, 209, 8, 1, 209, 8, 1, 4, 32, 4, 7, 8, 5, 4, 32],
     "watch": [7, 8, 5, 4, 8, 8, 5, 32],
     "alarm": [1, 32, 4, 209, 8, 1, 4, 8, 1, 32, 4, 8, 8, 7, 8, 5, 4, 32],
 }

@@ -5,7 +5,7 @@ from __future__ import annotations
 from typing import Iterator, Optional
 
 from bytelists import number, sha256
-from client import Answer, begun, stepped
+from client import Answer, state_of
 from client_attacks import FED, OTHER, THREE, WORLD, case, edited, feed, flipped, lookup, resigned
 from client_cases import ALL, ALL_FED, EQUAL, FIRST_KEY, SECOND_KEY, head, history, watch
 from client_world import World, hour
@@ -143,10 +143,7 @@ def turns(third: list[Answer]) -> Iterator[Answer]:
 
 def state_after(steps: list[Answer], now: int = hour(3), **more: str) -> bytes:
     """The state of a client after some steps."""
-    client = begun(case("", [], now=now, **more))
-    for step in steps:
-        stepped(client, step, now)
-    return client.state
+    return state_of(case("", steps, now=now, **more))
 
 
 def renewed(state: bytes) -> bytes:
@@ -177,8 +174,8 @@ WATCHING = ["missing 2", "fed 3 missing", f"{SECOND_KEY} same"]
 
 def damaged(plain: bytes, watching: bytes) -> Iterator[tuple[str, bytes, str]]:
     yield "no byte", b"", "StateLength"
-    yield "69 bytes", plain[:69], "StateLength"
-    for version in (0, 1, 3):
+    yield "109 bytes", plain[:109], "StateLength"
+    for version in (0, 1, 2, 4):
         yield f"version {version}", renewed(edited(plain, 0, bytes([version]))), "StateVersion"
     yield "version 1, of a watched name", renewed(edited(watching, 0, b"\1")), "StateVersion"
     yield "one byte less", plain[:-1], "StateDamaged"
@@ -190,7 +187,8 @@ def damaged(plain: bytes, watching: bytes) -> Iterator[tuple[str, bytes, str]]:
 
 def forged(plain: bytes, watching: bytes) -> Iterator[tuple[str, bytes, str]]:
     """States whose digest is right."""
-    second, end = 37 + 218, 37 + 2 * 218
+    # Where the second epoch begins, and the watch.
+    second, end = 37 + 218, 37 + 2 * 218 + 40
     root = edited(plain[37:246], 17, bytes(32))
     other = resigned(plain[37:246], 17, bytes(32))
     for what, state, wanted in [

@@ -94,6 +94,13 @@ class World:
             made.entry = signed(body_after(before, 2 if is_later else 1, epoch, root, nonce, policy))
             self.epochs[epoch], before = made, Entry(made.entry)
 
+    def sign_again(self, epoch: int) -> None:
+        """Signs the body of an epoch again, and those of the later ones over it."""
+        self.epochs[epoch].entry = signed(self[epoch][:145], nonce=7)
+        later = [it for it in self.epochs if it > epoch]
+        for before, it in zip([epoch, *later], later):
+            self.epochs[it].entry = signed(self[it][:49] + self.link(before) + self[it][81:145])
+
     def __getitem__(self, epoch: int) -> bytes:
         return self.epochs[epoch].entry
 

@@ -67,7 +67,7 @@ class Lines(Generic[KindOfOperation, KindOfEpoch]):
     """
 
     COMMANDS: ClassVar[dict[str, str]]
-    MOST_EPOCHS: ClassVar[int]
+    MOST_EPOCHS: ClassVar[Optional[int]]
     OPERATION: Callable[[Json], KindOfOperation]
 
     def __init__(self) -> None:

@@ -10,12 +10,13 @@ import members as read
 from bytelists import LONGEST_KEY, LONGEST_NAME, ZEROS, commitment
 from chain import Entry, body_after
 from directory import MOST_OPERATIONS, Answer, Lines, Operation, answer_of_entry, answer_of_lookup, end_elsewhere, end_here
+from evidence import is_malformed
 from grown import Node, built, grown, nodes_under, path_to
 from members import Fault, Wrong, array, b64, bytes_in_digits, h32, member, object_in, texts_bytes, whole_number
 from strict_json import Json
 from tree import Entries
 
-SIGNATURE_LENGTH = 64
+SIGNATURE_LENGTH, LOG = 64, 2
 
 
 class SuppliedOperation(Operation):
@@ -107,6 +108,36 @@ def signature(value: Json) -> bytes:
     return bytes_in_digits(value, SIGNATURE_LENGTH)
 
 
+def log_format(value: Json) -> int:
+    if whole_number(value) != LOG:
+        raise Wrong
+    return LOG
+
+
+def is_logged(members: dict[str, Json]) -> bool:
+    """Whether the rules of a log hold."""
+    return "log" in members and member(members, "log", log_format) == LOG
+
+
+def is_named(members: dict[str, Json], name: str, value: bytes) -> bool:
+    """Whether a member has the digits of these bytes."""
+    try:
+        return bytes_in_digits(members.get(name), len(value)) == value
+    except Wrong:
+        return False
+
+
+def check_named(members: dict[str, Json], name: str, value: bytes) -> None:
+    """Checks that a line names no other bytes than these."""
+    if name in members and not is_named(members, name, value):
+        raise Fault("ReplayDiffers")
+
+
+def with_first(line: bytes, name: str, value: bytes) -> bytes:
+    """A line with one more member in the place of the bytes up to its first brace."""
+    return b'{"%s":"%s",%s' % (name.encode(), value.hex().encode(), line[line.index(b"{") + 1 :])
+
+
 class Update:
     """What `prepare` makes and `install` stores: an epoch without its signature."""
 
@@ -149,6 +180,7 @@ class SuppliedDirectory(Lines[SuppliedOperation, Epoch]):
         "open": "open",
         "prepare": "prepare",
         "install": "install",
+        "withdraw": "withdraw",
         "lookup": "look_up",
         "latest": "tell_latest",
         "bindings": "tell_bindings",
@@ -156,7 +188,7 @@ class SuppliedDirectory(Lines[SuppliedOperation, Epoch]):
         "restoring": "restore_more",
         "restored": "end_restore",
     }
-    MOST_EPOCHS = 65536
+    MOST_EPOCHS = None
     OPERATION = SuppliedOperation
 
     def __init__(self) -> None:
@@ -166,12 +198,29 @@ class SuppliedDirectory(Lines[SuppliedOperation, Epoch]):
         self.nodes = 0
         self.pending: Optional[Update] = None
         self.restore: Optional[Restore] = None
+        # Whether the rules of a log hold.
+        self.is_logged = False
+        # The line that is replied to.
+        self.line = b""
+
+    def answer(self, line: bytes) -> Answer:
+        self.line = line
+        return super().answer(line)
+
+    def to_store(self, members: dict[str, Json], name: str, value: bytes) -> Answer:
+        """The line for the log, in a reply, if the rules of a log hold."""
+        if not self.is_logged:
+            return {}
+        return {"store": self.line if name in members else with_first(self.line, name, value)}
 
     def open(self, members: dict[str, Json]) -> Answer:
         nonce = member(members, "nonce", h32)
         policy = member(members, "policy", h32)
+        logged = is_logged(members)
         self.must_not_restore()
-        return self.be_open(nonce, policy)
+        answer = self.be_open(nonce, policy)
+        self.is_logged = logged
+        return answer
 
     def must_not_restore(self) -> None:
         if self.restore is not None:
@@ -197,6 +246,7 @@ class SuppliedDirectory(Lines[SuppliedOperation, Epoch]):
     def prepare(self, members: dict[str, Json]) -> Answer:
         number, later_nonce, ops = self.read_batch(members)
         self.must_be_open()
+        self.must_abandon(members)
         self.judge_batch(ops, self.indices)
         self.must_be_next(number)
         is_rotated = later_nonce is not None
@@ -204,8 +254,16 @@ class SuppliedDirectory(Lines[SuppliedOperation, Epoch]):
         before = self.epochs.get(self.latest)
         tree, nodes = self.tree_after(before, nonce, ops, is_rotated)
         body = body_after(before.entry if before else None, version, number, tree.hash, nonce, self.policy)
+        check_named(members, "body", body)
         self.pending = Update(body, version, nonce, ops, tree, nodes)
-        return {"body": body.hex(), "epoch": number, "nodes": nodes, "ok": "prepare", "root": tree.hash.hex()}
+        answer: Answer = {"body": body.hex(), "epoch": number, "nodes": nodes, "ok": "prepare", "root": tree.hash.hex()}
+        return answer | self.to_store(members, "body", body)
+
+    def must_abandon(self, members: dict[str, Json]) -> None:
+        """A line must name the pending update, or none if there is none, if the rules of a log hold."""
+        is_right = is_named(members, "abandons", self.pending.body) if self.pending else "abandons" not in members
+        if self.is_logged and not is_right:
+            raise Fault("NotAbandoned")
 
     def tree_after(self, before: Optional[Epoch], nonce: bytes, ops: list[SuppliedOperation], is_rotated: bool) -> tuple[Node, int]:
         """The tree of an epoch, and how many of its nodes are new."""
@@ -226,15 +284,24 @@ class SuppliedDirectory(Lines[SuppliedOperation, Epoch]):
         self.must_be_open()
         if self.pending is None:
             raise Fault("NotPrepared")
-        update, self.pending = self.pending, None
+        update = self.pending
         entry = Entry(update.body + signed)
+        check_named(members, "link", entry.link)
+        self.pending = None
         self.version, self.nonce, self.latest = update.version, update.nonce, entry.epoch
         self.epochs[entry.epoch] = Epoch(entry, update.tree)
         self.nodes += update.nodes
         for operation in update.operations:
             self.indices[operation.name] = operation.index
             self.records.setdefault(operation.index, Record()).add(entry.epoch, operation)
-        return answer_of_entry(entry, "install")
+        return answer_of_entry(entry, "install") | self.to_store(members, "link", entry.link)
+
+    def withdraw(self, members: dict[str, Json]) -> Answer:
+        self.must_be_open()
+        if self.pending is None:
+            raise Fault("NotPrepared")
+        self.pending = None
+        return {"ok": "withdraw"}
 
     def look_up(self, members: dict[str, Json]) -> Answer:
         number, name = self.epoch_and_name(members)
@@ -265,6 +332,7 @@ class SuppliedDirectory(Lines[SuppliedOperation, Epoch]):
 
     def begin_restore(self, members: dict[str, Json]) -> Answer:
         entry = Entry(member(members, "entry", read.entry))
+        logged = is_logged(members)
         self.must_not_restore()
         if self.is_open:
             raise Fault("AlreadyOpen")
@@ -272,7 +340,9 @@ class SuppliedDirectory(Lines[SuppliedOperation, Epoch]):
             raise Fault("NotLater")
         if entry.version not in (1, 2):
             raise Fault("Version")
-        self.restore = Restore(entry)
+        if is_malformed(entry):
+            raise Fault("Malformed")
+        self.restore, self.is_logged = Restore(entry), logged
         return {"ok": "restore"}
 
     def under_way(self) -> Restore:

@@ -1,4 +1,4 @@
-"""How the clients in Go, Rust, JavaScript and C are asked: the cases of cases/client, and random alterations and walks beside the second
+"""How the clients in Go, Rust, JavaScript, C and Java are asked: the cases of cases/client, and random alterations and walks beside the second
 implementation. Each language has a program that replies to requests, one on each line. Words are separated by one space.
 
 Bytes are hexadecimal digits, `.` for no byte. `-` stands for nothing: no key, no state, the default, the latest epoch.
@@ -27,7 +27,7 @@ Bytes are hexadecimal digits, `.` for no byte. `-` stands for nothing: no key, n
 | `report` | `report NAME FIRST LAST` |
 
 KIND is `overlap`, `other-policy` or `malformed`. A refusal is `refused NAME STATUS KIND MINE OTHER`, NAME as in docs/FORMATS.md,
-with `-` for no status and for no evidence. `trust` and the last five requests are for clients over the core, whose states have version 03. A call that the caller must not make is `misuse`. A program that begins anew forgets the
+with `-` for no status and for no evidence. A call that the caller must not make is `misuse`. A program that begins anew forgets the
 client that it had, also if it refuses to begin.
 """
 
@@ -39,14 +39,12 @@ import json
 import random
 import subprocess
 import time
-from dataclasses import dataclass
-from typing import Any, Callable, Iterator, Optional, Sequence, Union
+from typing import Any, Callable, Optional, Sequence, Union
 
 import client as second
-import client_alarms
 from alarm_walks import AlarmWalk
 from alterations import Alterer, causes_in
-from case_runner import CASES, Answer, cases
+from case_runner import Answer, cases
 from client import plain
 from running import Say
 from walks import Walk, seen_in
@@ -184,14 +182,14 @@ def answer_of(side: Side, step: Answer, said: list[str]) -> Answer:
     if do in ("compare", "cover") and first in ("equal", "unknown", "differs"):
         return {"compare": first}
     if do in ("mark", "confirmed", "cover", "alarms", "note", "report"):
-        return core_answer_of(do, first, rest)
+        return owner_answer_of(do, first, rest)
     if do == "evidence" and first == "evidence":
         return {"evidence": evidence_of(rest)}
     raise Broken(f"{do}: {' '.join(said)[:200]}")
 
 
-def core_answer_of(do: str, first: str, rest: Sequence[str]) -> Answer:
-    """A reply to a call that only a client over the core has."""
+def owner_answer_of(do: str, first: str, rest: Sequence[str]) -> Answer:
+    """A reply to a call about auditors, or about what the owner sees."""
     if do == "mark" and first in ("equal", "unknown", "differs"):
         return {"mark": first}
     if do == "confirmed" and first == do:
@@ -216,10 +214,9 @@ def state_of(side: Side) -> bytes:
 
 def watched_from(state: bytes) -> int:
     """The first watched epoch in a state, which stands after the name."""
-    watch = 37 + 218 * int.from_bytes(state[33:37], "big")
-    if state[0] == 3:
-        trust = watch + 4 + 9 * int.from_bytes(state[watch : watch + 4], "big")
-        watch = trust + 36 + 8 * int.from_bytes(state[trust + 32 : trust + 36], "big")
+    alarms = 37 + 218 * int.from_bytes(state[33:37], "big")
+    trust = alarms + 4 + 9 * int.from_bytes(state[alarms : alarms + 4], "big")
+    watch = trust + 36 + 8 * int.from_bytes(state[trust + 32 : trust + 36], "big")
     start = watch + 2 + state[watch + 1]
     return int.from_bytes(state[start : start + 8], "big")
 
@@ -248,77 +245,52 @@ def verdict(side: Side, case: Answer) -> Any:
         return f"{type(error).__name__}: {error}"
 
 
-@dataclass(frozen=True)
-class Kind:
-    """The cases that a client passes, what the second implementation returns for a case, the walks that both go, how many steps more
-    each part of them has, and what they see."""
-
-    cases: Callable[[], Iterator[Answer]]
-    verdicts: Callable[[Answer], Answer]
-    walk: Callable[[random.Random], Walk]
-    steps: int
-    sees: frozenset[str]
+# The walks of an owner without auditors, and with them, by turns.
+WALKS: Sequence[type[Walk]] = [Walk, AlarmWalk]
 
 
-def core_cases() -> Iterator[Answer]:
-    """The cases of clients over the core: those of version 03, and of the others what they give but for their states."""
+def check_cases(side: Side) -> None:
     for case in cases():
-        if case.get("state") is None and case["name"] not in client_alarms.OTHERWISE:
-            yield {**case, "gives": {**case["gives"], "state": None}}
-    for name in client_alarms.FILES:
-        yield from map(json.loads, (CASES / f"{name}.jsonl").read_text("utf-8").splitlines())
-
-
-# The client of each language until it is over the core, and the client over the core.
-BY_HAND = Kind(cases, second.verdicts, Walk, 0, frozenset(["same", "changed", "absent", "misuse"]))
-CORE = Kind(core_cases, client_alarms.verdicts, AlarmWalk, 20, frozenset(["same", "changed", "misuse"]))
-
-
-def check_cases(side: Side, kind: Kind) -> None:
-    for case in kind.cases():
         got = verdict(side, case)
-        got = plain(got) if isinstance(got, dict) else got
-        if case["gives"]["state"] is None and isinstance(got, dict):
-            got["state"] = None
-        assert got == case["gives"], case["name"]
+        assert (plain(got) if isinstance(got, dict) else got) == case["gives"], case["name"]
 
 
-def check_alterations(side: Side, kind: Kind, count: int, seed: int) -> tuple[set[str], float]:
+def check_alterations(side: Side, count: int, seed: int) -> tuple[set[str], float]:
     """So many alterations, of which both implementations return the same. Returns the kinds of results, and the program's seconds."""
-    alterer, chance, seen, spent = Alterer(list(kind.cases())), random.Random(seed), set[str](), 0.0
+    alterer, chance, seen, spent = Alterer(list(cases())), random.Random(seed), set[str](), 0.0
     for number in range(count):
         case = alterer.altered(chance)
         before = time.monotonic()
         mine = verdict(side, copy.deepcopy(case))
         spent += time.monotonic() - before
-        theirs = kind.verdicts(case)
+        theirs = second.verdicts(case)
         assert mine == theirs, f"alteration {number} of seed {seed}: {json.dumps(case)}"[:9000]
         seen.update(causes_in(mine))
     return seen, spent
 
 
-def check_walks(side: Side, kind: Kind, count: int, seed: int) -> None:
+def check_walks(side: Side, count: int, seed: int) -> None:
     """So many walks, each of which is interrupted by starts from the state, of which both implementations return the same."""
     seen: set[str] = set()
     for number in range(count):
-        walk, state = kind.walk(random.Random(f"{seed} {number}")), None
+        walk, state = WALKS[number % 2](random.Random(f"{seed} {number}")), None
         for part in range(3):
             case = walk.case(state)
-            case["steps"] += [walk.step() for _ in range(kind.steps)]
-            mine, theirs = verdict(side, case), kind.verdicts(case)
+            case["steps"] += [walk.step() for _ in range(20)]
+            mine, theirs = verdict(side, case), second.verdicts(case)
             assert mine == theirs and mine["begin"] == {"begun": True}, f"walk {number} of seed {seed}, part {part}"
             seen.update(seen_in(mine))
             state = state_of(side)
-    assert kind.sees <= seen, "the walks see changes"
+    assert count < 20 or {"same", "changed", "absent", "misuse"} <= seen, "the walks see changes"
 
 
-def check_program(what: str, words: Sequence[str], count: int, seed: int, say: Say, kind: Kind = BY_HAND) -> None:
+def check_program(what: str, words: Sequence[str], count: int, seed: int, say: Say) -> None:
     """All cases over the program of a client, so many alterations, and a quarter as many walks."""
     start, side = time.monotonic(), Side(words)
-    check_cases(side, kind)
+    check_cases(side)
     if count:
-        seen, spent = check_alterations(side, kind, count, seed)
+        seen, spent = check_alterations(side, count, seed)
         say(f"{what}: {count} alterations with {len(seen)} results, of which the program took {spent:.1f} s")
-        check_walks(side, kind, max(1, count // 4), seed)
+        check_walks(side, max(1, count // 4), seed)
     assert side.end() == 0, "the program ends"
     say(f"{what}: {time.monotonic() - start:.0f} s")

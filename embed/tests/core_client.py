@@ -1,8 +1,7 @@
 """The core of a client for C beside the second implementation: each call of a client is made by both, and must give the same.
 
-`Beside` is the client of the second implementation that keeps alarms. It gives the core what it keeps itself, calls it, and compares
-statuses, evidence and all memory with what becomes of its own. Signatures and VRF proofs are verified once, by the second
-implementation. Its states have version 02, of which the core knows nothing.
+`Beside` is the client of the second implementation. It gives the core what it keeps itself, calls it, and compares statuses, evidence
+and all memory with what becomes of its own. Signatures and VRF proofs are verified once, by the second implementation.
 """
 
 from __future__ import annotations
@@ -16,7 +15,7 @@ import client as second
 import curve
 import guarded
 from bytelists import number
-from client_alarms import Alarm, AlarmClient
+from client import Alarm
 from members import Fault
 from running import SHARED
 
@@ -84,12 +83,6 @@ class RawCovered(ctypes.Structure):
 LIBRARY = guarded.Library(str(SHARED))
 is_signed, vrf_output = lru_cache(4096)(curve.is_signed), lru_cache(4096)(curve.vrf_output)
 
-# The case in which an entry is signed again: a client whose states have version 02 refuses it.
-SIGNED_AGAIN = "feed: the last body with another signature, signed"
-
-# The client whose states have version 02.
-_OLD = second.Client
-
 # How often each call of the core was compared.
 CALLS: Counter[str] = Counter()
 
@@ -124,7 +117,7 @@ def present_of(client: second.Client, now: int) -> tuple[Present, RawPromise]:
 class Memory:
     """What a client keeps, as its caller in C has it, with room for one epoch and one change more, and for an alarm of each epoch."""
 
-    def __init__(self, client: AlarmClient) -> None:
+    def __init__(self, client: second.Client) -> None:
         whole = b"".join(it.entry.whole + number(it.time, 8) + number(it.seen, 1) for it in client.kept)
         self.count, self.kept = SIZE(len(client.kept)), ctypes.create_string_buffer(whole, len(whole) + KEPT)
         watched = client.watched
@@ -152,17 +145,8 @@ def evidence_of(client: second.Client, why: Why) -> Optional[list[Any]]:
     return [KINDS[why.kind], None if why.mine == NOWHERE else client.kept[why.mine].entry.epoch]
 
 
-class Beside(AlarmClient):
-    """A client of the second implementation that keeps alarms, with the core beside it."""
-
-    version, shortest = _OLD.version, _OLD.shortest
-
-    @property
-    def state(self) -> bytes:
-        return bytes(_OLD.state.__get__(self))
-
-    def resume(self, state: bytes) -> None:
-        _OLD.resume(self, state)
+class Beside(second.Client):
+    """A client of the second implementation, with the core beside it."""
 
     def compared(
         self, call: str, memory: Memory, before: tuple[Any, ...], status: int, why: Why, make: Callable[[], second.Answer]
@@ -243,6 +227,8 @@ class Beside(AlarmClient):
         return self.compared("expect", memory, before, status, Why(), lambda: super(Beside, self).expect(new, by))
 
     def mark(self, auditor: int, epoch: int, link: bytes) -> second.Answer:
+        if len(link) != 32:
+            return super().mark(auditor, epoch, link)
         memory = Memory(self)
         before = memory.all()
         found = LIBRARY.coniks_core_mark(memory.kept, memory.count, memory.marks, memory.auditors, SIZE(auditor), U64(epoch), link)
@@ -259,15 +245,25 @@ class Beside(AlarmClient):
         return answer
 
     def drop(self, now: int) -> second.Answer:
+        return self.covered(now, self.marks, self.trust.quorum, lambda: super(Beside, self).drop(now))
+
+    def cover(self, epoch: int, link: bytes, now: int) -> second.Answer:
+        if self.trust.auditors or self.compare(epoch, link)["compare"] != "equal":
+            return super().cover(epoch, link, now)
+        return self.covered(now, [epoch], 1, lambda: super(Beside, self).cover(epoch, link, now))
+
+    def covered(self, now: int, marks: Sequence[int], quorum: int, make: Callable[[], second.Answer]) -> second.Answer:
+        """Drops the epochs before the one that a quorum of these marks confirms."""
         memory, covered, (present, limit) = Memory(self), RawCovered(7, 7, 7, 7, 7), present_of(self, now)
-        before, had, watch = memory.all(), len(self.alarms), self.watched
+        before, watch = memory.all(), self.watched
+        had, epochs, raised = len(self.alarms), [it.entry.epoch for it in self.kept], (U64 * len(marks))(*marks)
         status = LIBRARY.coniks_core_cover(
-            of(present), of(limit), memory.kept, SIZE(memory.count.value + 1), of(memory.count), memory.marks, memory.auditors,
-            SIZE(self.trust.quorum), of(memory.watch), memory.changes, SIZE(len(memory.changes)), of(memory.change_count),
+            of(present), of(limit), memory.kept, SIZE(memory.count.value + 1), of(memory.count), raised, SIZE(len(marks)),
+            SIZE(quorum), of(memory.watch), memory.changes, SIZE(len(memory.changes)), of(memory.change_count),
             memory.alarms, SIZE(len(memory.alarms)), of(memory.alarm_count), of(covered),
         )  # fmt: skip
-        answer = self.compared("cover", memory, before, status, Why(), lambda: super(Beside, self).drop(now))
-        gone, more = answer["cover"], len(self.alarms) - had
+        answer = self.compared("cover", memory, before, status, Why(), make)
+        gone, more = epochs[: len(epochs) - len(self.kept)], len(self.alarms) - had
         assert (covered.epochs, covered.start, covered.end, covered.alarms) == (len(gone), *(gone[:1] + gone[-1:] or [0, 0]), more)
         assert covered.changes == (len(watch.changes) - len(self.watched.changes) if watch and self.watched else 0)
         return answer

@@ -10,7 +10,6 @@ from typing import Any, NamedTuple, Optional, Sequence
 
 import client as second
 import core_client
-from client_alarms import AlarmClient
 from core_client import (
     CALLS,
     KEPT,
@@ -31,6 +30,8 @@ from core_client import (
 from members import Fault
 
 BYTES = ctypes.c_void_p
+# The client of the second implementation, also while tests put another one in its place.
+_SECOND = second.Client
 NO_ROOM, STATE_CHAIN, NO_STEPS = 137, 101, 0
 
 
@@ -163,7 +164,7 @@ class Read:
         return self.kept.raw[: self.count.value * KEPT], watched, changes
 
 
-def parts_of(client: AlarmClient) -> Parts:
+def parts_of(client: second.Client) -> Parts:
     """What a client of the second implementation saves."""
     watched = client.watched
     return Parts(
@@ -177,7 +178,7 @@ def parts_of(client: AlarmClient) -> Parts:
 
 
 class Beside(core_client.Beside):
-    """A client of the second implementation that keeps alarms, with the core beside it, its histories too."""
+    """The same with histories, and with states that the core writes and reads too."""
 
     def history(self, name: bytes, whole: bytes, now: int) -> second.Answer:
         memory, needs, count, room = Memory(self), HistoryNeeds(), SIZE(NOWHERE), len(self.kept) + 1
@@ -221,15 +222,9 @@ class Beside(core_client.Beside):
         else:
             assert memory.all() == before and count.value == 0
 
-
-class Stateful(Beside):
-    """The same with states of version 03, which the core writes and reads too."""
-
-    version, shortest = AlarmClient.version, AlarmClient.shortest
-
     @property
     def state(self) -> bytes:
-        whole, written = bytes(AlarmClient.state.__get__(self)), Written(parts_of(self))
+        whole, written = bytes(_SECOND.state.__get__(self)), Written(parts_of(self))
         policy, size = self.policy.digest, len(whole)
         assert written.size(policy) == (0, size), "the size is the same"
         assert written.state(policy, size - 1) == (NO_ROOM, NOWHERE, b"\xa5" * (size + 8)), "a refused state changes nothing"
@@ -254,7 +249,7 @@ class Stateful(Beside):
         if status:
             self.refused_state(state, status)
             return
-        AlarmClient.resume(self, state)
+        _SECOND.resume(self, state)
         assert memory.parts() == parts_of(self), "what is kept is the same"
 
     def room(self, kept: int, changes: int, alarms: int) -> Read:
@@ -265,7 +260,7 @@ class Stateful(Beside):
     def refused_state(self, state: bytes, status: int) -> None:
         """The second implementation refuses it with the same number."""
         try:
-            AlarmClient.resume(self, state)
+            _SECOND.resume(self, state)
         except Fault as fault:
             assert status == second.NUMBERS[str(fault.answer["fault"])], (fault.answer, status)
             raise

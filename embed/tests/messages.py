@@ -13,7 +13,7 @@ from typing import Any
 
 import ecvrf
 from coniks import Policy
-from coniks.provider import Change, FileLog, Operation, Provider, Register
+from coniks.provider import Change, FileLog, Operation, Provider, Register, Settings
 from nacl.signing import SigningKey
 
 EPOCHS = [1, 2, 3, 5, 8, 13, 300]
@@ -32,9 +32,8 @@ def messages(program: str, log: Path) -> dict[str, Any]:
     signer = SigningKey(bytes(32))
     policy = Policy("keys.example.com", bytes(signer.verify_key), ecvrf.public_key(bytes(32)), 1767225600, 3600)
     keys: list[bytes] = []
-    with FileLog.create(log) as file, Provider(
-        program, index, lambda body: signer.sign(body).signature, file, policy=policy
-    ) as own:
+    settings = Settings(program, index, policy)
+    with FileLog.create(log) as file, Provider(settings, lambda body: signer.sign(body).signature, file) as own:
         for at, epoch in enumerate(EPOCHS):
             key = b"key %d of alice" % (at // 2)
             batch: list[Operation] = [Register(f"user {it} of {epoch}", b"key") for it in range(10 * at)]

@@ -3,10 +3,10 @@
 from __future__ import annotations
 
 import json
+from dataclasses import dataclass
 from pathlib import Path
-from typing import Any, Union
+from typing import Any, Sequence, Union
 
-import client_alarms
 import tools
 from running import ARCHIVE, EMBED, INCLUDE, TOP, run
 
@@ -19,11 +19,19 @@ STALE = "the latest epoch is too old by the policy's clock: feed a catch-up, or 
 Word = Union[str, Path]
 
 
-def compiled(room: Path, name: str, *more: str) -> Path:
+@dataclass(frozen=True)
+class Machine:
+    """A compiler for a machine, and the libraries for it."""
+
+    compiler: str = tools.CC
+    libraries: Sequence[Word] = (ARCHIVE, "-lsodium")
+
+
+def compiled(room: Path, name: str, *more: str, machine: Machine = Machine()) -> Path:
     """A program over the client, which compiles without a warning."""
     sources = [it for it in sorted((EMBED / "c").glob("client*.c")) if it.stem not in PROGRAMS]
     program = room / name
-    ran = run(tools.CC, *WARNED, *more, EMBED / f"c/{name}.c", *sources, "-o", program, ARCHIVE, "-lsodium")
+    ran = run(machine.compiler, *WARNED, *more, EMBED / f"c/{name}.c", *sources, "-o", program, *machine.libraries)
     assert ran.returncode == 0, ran.stderr.decode()[-3000:]
     return program
 
@@ -31,7 +39,7 @@ def compiled(room: Path, name: str, *more: str) -> Path:
 def looked_up() -> list[tuple[dict[str, Any], dict[str, Any]]]:
     """Cases of which the second step is a lookup that is accepted, with what it gives: a key, and none."""
     found: dict[bool, tuple[dict[str, Any], dict[str, Any]]] = {}
-    for file in sorted(it for it in CASES.glob("*.jsonl") if it.stem not in client_alarms.FILES):
+    for file in sorted(CASES.glob("*.jsonl")):
         for case in map(json.loads, file.read_text("utf-8").splitlines()):
             kinds, gives = [it["do"] for it in case["steps"][:2]], case["gives"]["steps"][1:2]
             if kinds == ["feed", "lookup"] and gives and "first_seen" in gives[0] and not case.get("state"):

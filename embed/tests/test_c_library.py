@@ -22,7 +22,7 @@ from running import ARCHIVE, EMBED, INCLUDE, SHARED, TOP, WARNED, Say, compiled,
 pytestmark = pytest.mark.usefixtures("embedded")
 
 HEADER = (INCLUDE / "coniks.h").read_text("utf-8")
-CORE = (INCLUDE / "coniks_core.h").read_text("utf-8")
+HEADERS = {it.name: it.read_text("utf-8") for it in INCLUDE.glob("*.h")}
 CC = tools.CC
 MAY_ASK = {"memcpy", "memmove", "memset"}
 STACK = 8192
@@ -40,14 +40,14 @@ SAMPLE = {
 }
 
 
-def declared(header: str = HEADER + CORE) -> set[str]:
+def declared(header: str = "".join(HEADERS.values())) -> set[str]:
     return set(re.findall(r"^[a-z0-9_]+ (coniks_[a-z_0-9]+)\(", header, re.M))
 
 
 @pytest.mark.parametrize("unproved, name", [("", "build"), ("1", "unproved-library")], ids=["proved", "unproved"])
 def test_build_without_rt(tmp_path: Path, unproved: str, name: str) -> None:
     """Without `rt` the library isn't built, and the error says in one line what is missing."""
-    for it in ("embed/build", "include/coniks.h", "include/coniks_core.h", "crates.txt", *(f"scripts/{it}" for it in BUILDING)):
+    for it in ("embed/build", "crates.txt", *(f"include/{it}" for it in HEADERS), *(f"scripts/{it}" for it in BUILDING)):
         (tmp_path / it).parent.mkdir(exist_ok=True)
         shutil.copy(TOP / it, tmp_path / it)
     kept = [it for it in os.environ["PATH"].split(os.pathsep) if not (Path(it) / "rt").exists()]
@@ -81,10 +81,11 @@ def test_header(tmp_path: Path, standard: str) -> None:
         "coniks_body": 152,
         "coniks_kept": 218,
         "coniks_found": 32,
+        "coniks_guard_record": 364,
     }
     lines = "".join(f"typedef char is_{name}[sizeof({name}) == {size} ? 1 : -1];\n" for name, size in sizes.items())
     source, words = tmp_path / "header", [CC, *WARNED, f"-std={standard}", "-fsyntax-only", "-x", language]
-    source.write_text(f'#include "coniks_core.h"\n{lines}')
+    source.write_text(f'#include "coniks_core.h"\n#include "coniks_guard.h"\n{lines}')
     ran = run(*words, "-pedantic", source)
     assert ran.returncode == 0, ran.stderr.decode()
     source.write_text('#include "coniks.h"\nvoid f(coniks_body *body) { coniks_body_bytes(body, 0); }\n')
@@ -158,7 +159,7 @@ def test_failed_link(tmp_path: Path) -> None:
     for folder in [top / "embed", top / "include", top / "scripts", archive.parent]:
         folder.mkdir(parents=True)
     shutil.copy(EMBED / "build", top / "embed")
-    for it in ("coniks.h", "coniks_core.h"):
+    for it in HEADERS:
         shutil.copy(INCLUDE / it, top / "include")
     shutil.copy(ARCHIVE, archive)
     writes_a_part = 'while [ $# -gt 1 ]; do [ "$1" != -o ] || echo part >"$2"; shift; done; exit 1'

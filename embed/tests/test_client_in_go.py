@@ -35,7 +35,7 @@ def test_package(here: Path, program: str, tmp_path: Path) -> None:
     import messages
 
     messages.write(program, tmp_path / "messages.json")
-    go(here, "test", "-bench=.", "./...", CONIKS_PROVIDER=program, CONIKS_MESSAGES=str(tmp_path / "messages.json"))
+    go(here, "test", "-bench=.", "./...", CONIKS_MESSAGES=str(tmp_path / "messages.json"))
 
 
 def test_copies(here: Path) -> None:

@@ -1,4 +1,4 @@
-"""The clients in Go, Rust, JavaScript and C: all cases of cases/client, and random alterations and walks beside the second
+"""The clients in Go, Rust, JavaScript, C and Java: all cases of cases/client, and random alterations and walks beside the second
 implementation."""
 
 from __future__ import annotations
@@ -11,6 +11,7 @@ from pathlib import Path
 from typing import Callable, Sequence, Union
 
 import client_sides
+import java_clients
 import native_clients
 import pytest
 from running import EMBED, TOP, Say, needs
@@ -53,14 +54,14 @@ class Language:
     build: Callable[[Path], Command]
     over: str = "embedded"
     also: Sequence[str] = ()
-    kind: client_sides.Kind = client_sides.BY_HAND
 
 
 LANGUAGES = {
-    "Go": Language(["go", "a C compiler", "edwards25519 for Go"], in_go, kind=client_sides.CORE),
-    "Rust": Language(["cargo", "a C compiler", "libsodium"], in_rust, kind=client_sides.CORE),
+    "Go": Language(["go", "a C compiler", "edwards25519 for Go"], in_go),
+    "Rust": Language(["cargo", "a C compiler", "libsodium"], in_rust),
     "JavaScript": Language(["node", "wasm-opt"], in_javascript, "module"),
-    "C": Language(["a C compiler", "libsodium"], in_c, also=["refusing"], kind=client_sides.CORE),
+    "C": Language(["a C compiler", "libsodium"], in_c, also=["refusing"]),
+    "Java": Language(["javac", "a C compiler", "libsodium"], java_clients.answers),
 }
 
 
@@ -83,6 +84,6 @@ def test_client(tmp_path: Path, what: str, request: pytest.FixtureRequest, say: 
     needs(*language.tools)
     request.getfixturevalue(language.over)
     words = language.build(tmp_path)
-    client_sides.check_program(what, words, *numbers(request.config), say, language.kind)
+    client_sides.check_program(what, words, *numbers(request.config), say)
     for more in language.also:
-        client_sides.check_program(f"{what}, {more}", [*words, more], 0, 1, say, language.kind)
+        client_sides.check_program(f"{what}, {more}", [*words, more], 0, 1, say)

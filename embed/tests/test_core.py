@@ -13,12 +13,14 @@ pytest.importorskip("nacl.signing")
 
 import client as second
 import core_client
+import core_states
+from alarm_walks import AlarmWalk
 from alterations import Alterer
 from case_runner import Answer, cases
 from running import EMBED, Say, compiled, run
 from walks import Walk
 
-CASES = [it for it in cases() if it["name"] != core_client.SIGNED_AGAIN]
+CASES = [*cases()]
 
 # The calls of include/coniks_core.h, and the bytes of stack that each may take.
 CALLS = {"feed", "reply_needs", "lookup", "watch", "expect", "compare", "evidence", "catch_up", "history_needs", "history"}
@@ -43,7 +45,7 @@ STACK = 8192
 @pytest.fixture(autouse=True)
 def _beside(embedded: None, monkeypatch: pytest.MonkeyPatch) -> Iterator[None]:
     """Makes each client of the second implementation one that has the core beside it."""
-    monkeypatch.setattr(second, "Client", core_client.Beside)
+    monkeypatch.setattr(second, "Client", core_states.Beside)
     yield
 
 
@@ -64,26 +66,20 @@ def test_alterations(pytestconfig: pytest.Config, say: Say) -> None:
 
 
 def test_walks(pytestconfig: pytest.Config, say: Say) -> None:
-    """Random walks of an owner, each interrupted by two starts from the state."""
+    """Random walks of an owner, half of them with auditors, each interrupted by two starts from the state."""
     count, seed, before = pytestconfig.getoption("alterations") // 4, pytestconfig.getoption("seed"), core_client.CALLS.copy()
     for number in range(count):
-        walk, state = Walk(random.Random(f"{seed} {number}")), None
+        walk, state = [Walk, AlarmWalk][number % 2](random.Random(f"{seed} {number}")), None
         for _ in range(3):
             case = walk.case(state)
+            case["steps"] += [walk.step() for _ in range(20)]
             second.verdicts(case)
-            state = state_of(case)
+            state = second.state_of(case)
     calls = core_client.CALLS - before
     say(f"{count} walks: calls of the core: {dict(sorted(calls.items()))}")
-    assert {"feed", "lookup", "watch", "expect", "compare"} <= {*calls}
-
-
-def state_of(case: Answer) -> bytes:
-    """The state of version 02 of a client at the end of a case."""
-    client, now = second.begun(case), case["now"]
-    for step in case["steps"]:
-        now = step.get("now", now)
-        second.told(lambda: second.stepped(client, step, now))
-    return client.state
+    assert {"feed", "lookup", "watch", "expect", "compare", "mark", "cover", "note", "report", "state_write", "state_read"} <= {
+        *calls
+    }
 
 
 def test_stack(tmp_path: Path, say: Say) -> None:

@@ -13,7 +13,7 @@ pytest.importorskip("nacl.signing")
 
 import client as second
 import core_client as core
-from client_alarms import Alarm, AlarmClient, Trust
+from client import Alarm, Client, Trust
 from bytelists import number, sha256
 from client_world import BATCHES, POLICY, SIGNING_KEY, VRF_KEY, World, hour
 from core_client import LIBRARY, SIZE, U32, U64, Memory, RawAlarm, RawCovered, RawPromise, RawReport, known, of, passed, present_of
@@ -51,8 +51,8 @@ def confirmed(marks: Sequence[int], quorum: int) -> Optional[int]:
     return sorted(marks, reverse=True)[quorum - 1] or None
 
 
-def client_with(*epochs: int) -> AlarmClient:
-    client = AlarmClient(SIGNING_KEY, VRF_KEY, POLICY.encode())
+def client_with(*epochs: int) -> Client:
+    client = Client(SIGNING_KEY, VRF_KEY, POLICY.encode())
     for epoch in epochs:
         client.feed([WORLD[epoch]], hour(epoch))
     return client

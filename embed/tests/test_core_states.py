@@ -1,11 +1,9 @@
-"""Histories, catch-ups, alarms and states of the core of a client for C beside the second implementation: cases, alterations of them,
-and random walks."""
+"""Histories, catch-ups and states of the core of a client for C beside the second implementation: alterations of cases that have them."""
 
 from __future__ import annotations
 
 import copy
 import ctypes
-import json
 import random
 from typing import Callable, Iterator, Sequence
 
@@ -14,78 +12,39 @@ import pytest
 pytest.importorskip("nacl.signing")
 
 import client as second
-import client_alarms
 import core_client
 import core_states
-from alarm_walks import AlarmWalk
 from alterations import Alterer
-from case_runner import CASES as FOLDER
 from case_runner import Answer, cases
 from members import Fault
 from replies import entries_of
 from running import Say
 
-CASES = [it for it in cases() if it["name"] != core_client.SIGNED_AGAIN]
+CASES = [*cases()]
 HISTORIES = [it for it in CASES if any(step["do"] == "history" for step in it["steps"])]
 CATCH_UPS = [bytes.fromhex(step["bytes"]) for it in CASES for step in it["steps"] if step["do"] == "catch up"]
-ALARMS = [json.loads(it) for name in client_alarms.FILES for it in (FOLDER / f"{name}.jsonl").read_text("utf-8").splitlines()]
-STATES = [it for it in ALARMS if it.get("state") is not None]
+STATES = [it for it in CASES if it.get("state") is not None]
 
 
 @pytest.fixture(autouse=True)
 def _beside(embedded: None, monkeypatch: pytest.MonkeyPatch) -> Iterator[None]:
     """Makes each client of the second implementation one that has the core beside it."""
     monkeypatch.setattr(second, "Client", core_states.Beside)
-    monkeypatch.setattr(client_alarms, "AlarmClient", core_states.Stateful)
     yield
-
-
-@pytest.mark.parametrize("case", CASES, ids=[it["name"] for it in CASES])
-def test_case(case: Answer) -> None:
-    assert second.plain(second.verdicts(case)) == case["gives"]
-
-
-@pytest.mark.parametrize("case", ALARMS, ids=[it["name"] for it in ALARMS])
-def test_alarms(case: Answer) -> None:
-    """The cases of clients that keep alarms, whose states the core writes and reads."""
-    assert second.plain(client_alarms.verdicts(case)) == case["gives"]
-
-
-def test_walks(pytestconfig: pytest.Config, say: Say) -> None:
-    """Random walks of an owner whose client keeps alarms, each interrupted by two starts from the state."""
-    count, seed, before = pytestconfig.getoption("alterations") // 4, pytestconfig.getoption("seed"), core_client.CALLS.copy()
-    for number in range(count):
-        walk, state = AlarmWalk(random.Random(f"{seed} {number}")), None
-        for _ in range(3):
-            case = walk.case(state)
-            case["steps"] += [walk.step() for _ in range(20)]
-            client_alarms.verdicts(case)
-            state = state_of(case)
-    calls = core_client.CALLS - before
-    say(f"{count} walks with alarms: calls of the core: {dict(sorted(calls.items()))}")
-    assert {"feed", "lookup", "mark", "cover", "note", "report", "history", "state_write", "state_read"} <= {*calls}
-
-
-def state_of(case: Answer) -> bytes:
-    """The state of a client at the end of a case."""
-    client = client_alarms.begun(case)
-    for step in case["steps"]:
-        second.told(lambda: client_alarms.stepped(client, step, step["now"]))
-    return client.state
 
 
 def test_histories(pytestconfig: pytest.Config, say: Say) -> None:
     """Altered histories: whatever the second implementation gives, the core gives too."""
     alterer = Alterer(HISTORIES)
     alterations = [alterer.bytes_of_step, alterer.bytes_of_step, alterer.order, alterer.number]
-    alter(alterer, alterations, pytestconfig, say, "history", second.verdicts)
+    alter(alterer, alterations, pytestconfig, say, "history")
 
 
 def test_states(pytestconfig: pytest.Config, say: Say) -> None:
     """Altered states: most have the digest of what is in them."""
     alterer = Alterer(STATES)
     alterations = [alterer.state, alterer.state, alterer.state, alterer.bytes_of_step]
-    alter(alterer, alterations, pytestconfig, say, "state_read", client_alarms.verdicts)
+    alter(alterer, alterations, pytestconfig, say, "state_read")
 
 
 def alter(
@@ -94,7 +53,6 @@ def alter(
     config: pytest.Config,
     say: Say,
     call: str,
-    verdicts: Callable[[Answer], Answer],
 ) -> None:
     count, before = config.getoption("alterations"), core_client.CALLS.copy()
     found: dict[str, int] = {}
@@ -102,7 +60,7 @@ def alter(
         chance = random.Random(f"{config.getoption('seed')} {number}")
         alterer.chance = chance
         case = altered(alterer, alterations)
-        answer = verdicts(case)
+        answer = second.verdicts(case)
         for it in [answer["begin"], *answer["steps"]]:
             name = it.get("refused")
             found |= {name: found.get(name, 0) + 1} if name else {}

@@ -3,10 +3,11 @@
 from __future__ import annotations
 
 from pathlib import Path
+from textwrap import indent
 from typing import Sequence
 
 import pytest
-from running import needs, run
+from running import TOP, needs, run
 from sides import Request, check_example, check_requests, go_environment, signed_example
 
 
@@ -15,8 +16,8 @@ def _tools() -> None:
     needs("go", "a C compiler")
 
 
-def go(here: Path, *words: str, **environment: str) -> None:
-    ran = run("go", *words, cwd=here / "go", env=go_environment(here) | environment)
+def go(here: Path, *words: str) -> None:
+    ran = run("go", *words, cwd=here / "go", env=go_environment(here))
     assert ran.returncode == 0, (ran.stdout + ran.stderr).decode()[-2000:]
 
 
@@ -24,12 +25,12 @@ def test_vet(here: Path) -> None:
     go(here, "vet", "./...")
 
 
-def test_vet_without_cgo(here: Path) -> None:
-    go(here, "vet", ".", CGO_ENABLED="0")
-
-
-def test_package(here: Path, program: str) -> None:
-    go(here, "test", "./...", CONIKS_PROVIDER=program)
+def test_package(here: Path) -> None:
+    """The package's tests. Its policies are the examples of docs/FORMATS.md."""
+    page = (TOP / "docs/FORMATS.md").read_text("utf-8")
+    for file in ("policy.txt", "vouched_policy.txt"):
+        assert indent((here / "go/testdata" / file).read_text("utf-8"), " " * 4) in page
+    go(here, "test", "./...")
 
 
 def test_requests(here: Path, tmp_path: Path, requests: Sequence[Request]) -> None:
