@@ -8,7 +8,7 @@ from contextlib import ExitStack, suppress
 from typing import Any, Callable, Optional
 
 from coniks.postgres import PostgresLog
-from coniks.provider import Directory, Overtaken, Provider, ProviderError
+from coniks.provider import Directory, Overtaken, Provider, ProviderError, Settings
 from coniks.replica import Replica
 
 SPAWN = multiprocessing.get_context("spawn")
@@ -44,6 +44,7 @@ class Node:
 def serve(pipe: Any, make_log: MakeLog, program: str, keys: Any, is_writer: bool, replica: type[Replica]) -> None:
     """Answers calls. The first one opens the log and the directory, or returns why it can't; once it was overtaken, the next one opens
     a replica."""
+    settings = Settings(program, keys.index, keys.policy, nonce=keys.nonce, verify=keys.verify)
     log: Optional[PostgresLog] = None
     opened: Optional[Directory] = None
     with suppress(EOFError), ExitStack() as room:
@@ -52,9 +53,8 @@ def serve(pipe: Any, make_log: MakeLog, program: str, keys: Any, is_writer: bool
             try:
                 log = log or room.enter_context(make_log())
                 if not opened and is_writer:
-                    settings = {"policy": keys.policy, "nonce": keys.nonce, "verify": keys.verify}
-                    opened = Provider(program, keys.index, keys.signer(), log, **settings)
-                opened = opened or replica(log, program, keys.index, policy=keys.policy, verify=keys.verify)
+                    opened = Provider(settings, keys.signer(), log)
+                opened = opened or replica(settings, log)
                 if call != "lead":
                     answer = getattr(opened, call)(*arguments)
                 elif isinstance(opened, Replica):

@@ -9,9 +9,10 @@ from __future__ import annotations
 
 import hashlib
 
-from coniks._ecvrf import ORDER, PRIME, InvalidProof, challenge, encode_to_curve, hashed_point, output, times, times_base, verify
+from coniks._ecvrf import ORDER, PRIME, PROOF_LENGTH, InvalidProof, challenge, encode_to_curve, hashed_point, is_key, output, times
+from coniks._ecvrf import times_base, verify
 
-__all__ = ["ORDER", "PRIME", "InvalidProof", "hashed_point", "output", "prove", "public_key", "verify"]
+__all__ = ["ORDER", "PRIME", "PROOF_LENGTH", "InvalidProof", "hashed_point", "is_key", "output", "prove", "public_key", "verify"]
 
 
 def _secret_scalar(secret: bytes) -> int:

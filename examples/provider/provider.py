@@ -8,32 +8,24 @@ from typing import Any, Iterable
 
 import ecvrf
 from coniks.guard import Guard
-from coniks.provider import Epoch, FileLog, Latest, Operation, Provider
+from coniks.provider import Epoch, FileLog, Latest, Operation, Provider, Settings
 from keys import PublicKeys, is_signed
 from nacl.signing import SigningKey
 
 
-class Indices:
-    """The secret key of a VRF: it computes indices, and proves them."""
+class Secrets:
+    """A provider's secret keys: they compute indices, prove them, and sign."""
 
-    def __init__(self, vrf: bytes):
-        self._vrf = vrf
+    def __init__(self, signing: bytes, vrf: bytes):
+        self._signer, self._vrf = SigningKey(signing), vrf
+        self.keys = PublicKeys(bytes(self._signer.verify_key), ecvrf.public_key(vrf))
+        self.policy = self.keys.policy
 
     def proof(self, name: str) -> bytes:
         return ecvrf.prove(self._vrf, name.encode())
 
     def index(self, name: str) -> bytes:
         return ecvrf.output(self.proof(name))[:32]
-
-
-class Secrets(Indices):
-    """A provider's secret keys: they compute indices and signatures."""
-
-    def __init__(self, signing: bytes, vrf: bytes):
-        super().__init__(vrf)
-        self._signer = SigningKey(signing)
-        self.keys = PublicKeys(bytes(self._signer.verify_key), ecvrf.public_key(vrf))
-        self.policy = self.keys.policy
 
     def sign(self, body: bytes) -> bytes:
         return self._signer.sign(body).signature
@@ -52,8 +44,8 @@ class KeyServer:
         guard = Guard(record, secrets.sign, new_directory=create, verify=secrets.verify)
         with ExitStack() as opened:
             file = opened.enter_context(FileLog.create(log) if create else FileLog(log))
-            keys: dict[str, Any] = {"policy": secrets.policy, "nonce": nonce, "vrf_public_key": secrets.keys.vrf}
-            provider = Provider(program, secrets.index, guard, file, verify=secrets.verify, **keys)
+            keys: dict[str, Any] = {"nonce": nonce, "vrf_public_key": secrets.keys.vrf, "verify": secrets.verify}
+            provider = Provider(Settings(program, secrets.index, secrets.policy, **keys), guard, file)
             self._directory = opened.enter_context(provider)
             self._opened = opened.pop_all()
 

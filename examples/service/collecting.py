@@ -25,6 +25,8 @@ from queueing import Queue, Row
 # The most operations of a batch, and of those that wait.
 MOST = 4096
 MOST_WAITING = 4 * MOST
+# The most operations whose names are looked up at once.
+_LOOKING = 2
 # The seconds until the clock is read again, and the most until a commit that failed is tried again.
 _PAUSE, _LONGEST_PAUSE = 0.3, 5
 _KINDS: dict[str, type[Operation]] = {"register": Register, "change": Change}
@@ -92,9 +94,16 @@ class Collector:
         self._waiting: dict[str, Asked] = {}
         self._batch: dict[str, Asked] = {}
         self._epoch: Optional[int] = None
+        # Few threads look up names for operations at once, so that those of one address delay no other lookups.
+        self._looking = asyncio.Semaphore(_LOOKING)
         # One thread commits, so that lookups wait for none of it.
         self._thread = ThreadPoolExecutor(1, "commit")
         self.is_over = self._has_read = False
+
+    @property
+    def has_all(self) -> bool:
+        """Whether each operation of the queue is known. After a start it is not, until the queue was read."""
+        return self._has_read or self.holder.queue is None
 
     @property
     def pending(self) -> int:
@@ -110,7 +119,8 @@ class Collector:
 
     async def _judged(self, operation: Operation, headers: Mapping[str, str]) -> Judged:
         """An operation that whoever asks may do, by the name's key of the latest epoch. Raises `Problem`."""
-        shown = await asyncio.to_thread(self.holder.directory.lookup, operation.name)
+        async with self._looking:
+            shown = await asyncio.to_thread(self.holder.directory.lookup, operation.name)
         judged = Judged(operation, headers, shown_key(shown), shown.epoch)
         if not await asyncio.to_thread(judged.is_allowed, self.authorise):
             raise self._forbidden()

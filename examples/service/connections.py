@@ -9,7 +9,7 @@ import time
 from collections import Counter
 from contextlib import suppress
 from dataclasses import dataclass, field
-from functools import cached_property
+from functools import cached_property, lru_cache
 from ipaddress import IPv4Address, IPv6Address, IPv6Network, ip_address
 from typing import Any, Callable, Optional, Sequence
 
@@ -67,8 +67,8 @@ class Bounds:
 
     def address_of(self, request: web.BaseRequest) -> str:
         """The address for which a request counts."""
-        proxied = request.headers.getall("X-Forwarded-For", [""])[-1].rpartition(",")[2].strip()
-        return (proxied if self.is_behind_proxy else "") or request.remote or ""
+        proxied = request.headers.getall("X-Forwarded-For", [""])[-1] if self.is_behind_proxy else ""
+        return proxied.rpartition(",")[2].strip() or request.remote or ""
 
 
 class Connection(web.RequestHandler):
@@ -77,6 +77,8 @@ class Connection(web.RequestHandler):
     def __init__(self, bounds: Bounds, server: Any, **settings: Any):
         super().__init__(server, **settings)
         self._bounds, self._size, self._is_over, self._network = bounds, 0, False, ""
+        # When it is to end, and what looks then whether that is still so.
+        self._deadline = 0.0
         self._timer: Optional[asyncio.TimerHandle] = None
 
     def connection_made(self, transport: asyncio.BaseTransport) -> None:
@@ -146,9 +148,22 @@ class Connection(web.RequestHandler):
         """Ends the connection later, unless this is called again before. One that sent too much ends in any case."""
         if self._is_over or not self.transport or self.transport.is_closing():
             return
+        self._deadline = asyncio.get_running_loop().time() + seconds
+        # A timer for each request would cost more than one that looks too early now and then.
+        if self._timer is None or self._deadline < self._timer.when():
+            self._look_later()
+
+    def _look_later(self) -> None:
         if self._timer:
             self._timer.cancel()
-        self._timer = asyncio.get_running_loop().call_later(seconds, self.transport.abort)
+        self._timer = asyncio.get_running_loop().call_at(self._deadline, self._look)
+
+    def _look(self) -> None:
+        """Ends the connection if its time is over."""
+        if self.transport and asyncio.get_running_loop().time() >= self._deadline:
+            self.transport.abort()
+        elif self.transport:
+            self._look_later()
 
 
 class Listening:
@@ -238,6 +253,7 @@ class Rate:
         return self._clock() - _BURST / self._a_second
 
 
+@lru_cache(4096)
 def network_of(address: str) -> str:
     """The network that counts as one: an address of IPv4, also in the form of IPv6, or a /64. What is no address counts as one too."""
     try:

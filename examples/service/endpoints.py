@@ -20,7 +20,9 @@ from coniks.provider import Change, Fault, Operation, ProviderError, Register, U
 from coniks.names import BadName
 from connections import LONGEST, Bounds, Connection, is_here, network_of
 from holding import LOG, epoch_of, error_of, link_of
-from observing import Metrics
+from looking import Looker
+from observing import LINES, Metrics
+from outside import KeyFailed
 from prometheus_client import CONTENT_TYPE_LATEST, generate_latest
 from problems import Problem, json_reply, key_of, members_of, name_of, number_of, query_of
 from queueing import QueueFailed
@@ -33,11 +35,12 @@ _FOLLOW = Path(__file__).resolve().parents[2] / "web/out/follow.html"
 PAGE, SPAN = 1000, 1000
 # The most seconds that a request waits for its receipt.
 LONGEST_WAIT = 20
+_LOOKUP = "/v1/lookup"
 # The parameters of those routes that have some.
 _PARAMETERS = {
     "/v1/note": ["auditor"],
     "/v1/entries": ["after"],
-    "/v1/lookup": ["name", "epoch"],
+    _LOOKUP: ["name", "epoch"],
     "/v1/history": ["name", "first", "last"],
 }
 _FOR_OPERATORS = ("/healthz", "/readyz", "/metrics")
@@ -49,7 +52,7 @@ class Endpoints:
 
     def __init__(self, collector: Collector, stapler: Stapler, metrics: Metrics, bounds: Bounds):
         self._collector, self._stapler, self._metrics = collector, stapler, metrics
-        self._holder, self._bounds = collector.holder, bounds
+        self._holder, self._bounds, self._looker = collector.holder, bounds, Looker(collector.holder)
         # One thread makes all histories, each of which takes as long as many lookups. Those of a network wait for one another.
         self._thread, self._turns = ThreadPoolExecutor(1, "history"), WeakValueDictionary[str, asyncio.Lock]()
         self.app = web.Application(middlewares=[self._around], client_max_size=bounds.body)
@@ -58,12 +61,13 @@ class Endpoints:
 
     def routes(self) -> list[web.RouteDef]:
         return [
+            # aiohttp compares a request with one after another.
+            web.get(_LOOKUP, self.lookup),
             web.get("/", self.page),
             web.get("/v1/policy", self.policy),
             web.get("/v1/head", self.head),
             web.get("/v1/note", self.note),
             web.get("/v1/entries", self.entries),
-            web.get("/v1/lookup", self.lookup),
             web.get("/v1/history", self.history),
             web.post("/v1/operations", self.operate),
             web.get("/v1/operations/{number}", self.outcome),
@@ -84,7 +88,9 @@ class Endpoints:
             await self._count(request, route)
             if route == "/" or route.startswith("/v1/"):
                 request["query"] = query_of(request, *_PARAMETERS.get(route, ()))
-            made = await asyncio.wait_for(handler(request), LONGEST)
+            # A lookup has an end by itself, which costs less than a timer for each of them.
+            async with asyncio.timeout(None if route == _LOOKUP else LONGEST):
+                made = await handler(request)
         except ConnectionError:
             # The client has gone.
             raise
@@ -95,9 +101,9 @@ class Endpoints:
                 made.force_close()
         made.headers.update({"X-Content-Type-Options": "nosniff", "Server": "coniks"})
         seconds = time.monotonic() - start
-        self._metrics.seconds.labels(route, str(made.status)).observe(seconds)
+        self._metrics.seconds(route, made.status).observe(seconds)
         members = {"method": request.method, "route": route, "status": made.status, "ms": round(1000 * seconds, 2)}
-        LOG.info("request", extra={"members": members | {"bytes": made.content_length}})
+        LINES.add("request", members | {"bytes": made.content_length})
         request.protocol.replied()
         return made
 
@@ -106,7 +112,8 @@ class Endpoints:
         request["is_counted"] = True
         address = self._bounds.address_of(request)
         if route not in _FOR_OPERATORS or not is_here(address):
-            await asyncio.sleep(self._bounds.requests.count(address))
+            if seconds := self._bounds.requests.count(address):
+                await asyncio.sleep(seconds)
 
     async def _count_unseen(self, request: web.Request, response: web.StreamResponse) -> None:
         """Counts what aiohttp refuses by itself, such as an expectation."""
@@ -125,7 +132,7 @@ class Endpoints:
             return Problem(400, "Request", "the body is not as the headers say")
         if isinstance(error, Fault):
             return Problem(404 if isinstance(error, UnknownEpoch) else 400, type(error).__name__, error.said)
-        if isinstance(error, (ProviderError, QueueFailed, asyncio.TimeoutError)):
+        if isinstance(error, (ProviderError, KeyFailed, QueueFailed, asyncio.TimeoutError)):
             LOG.warning("unavailable", extra=error_of(error))
             return Problem(503, "Unavailable", "the directory can't be asked now: ask again", 1)
         self._metrics.unexpected.inc()
@@ -166,9 +173,12 @@ class Endpoints:
     async def lookup(self, request: web.Request) -> web.Response:
         query = request["query"]
         name, epoch = name_of(query.get("name", "")), number_of(query["epoch"], "epoch") if "epoch" in query else None
-        if epoch is not None:
-            await self._check_sight(request, name, epoch)
-        found = await asyncio.to_thread(self._holder.reply, name, epoch)
+        if epoch is None:
+            found = await self._looker.reply(name)
+        else:
+            async with asyncio.timeout(LONGEST):
+                await self._check_sight(request, name, epoch)
+                found = await asyncio.to_thread(self._holder.reply, name, epoch)
         self._metrics.count_lookup(found)
         # A name is private, and at an epoch that was asked for its reply never changes.
         made = reply(found, BYTES, "no-store" if epoch is None else "private, " + _FOR_EVER)
@@ -217,6 +227,8 @@ class Endpoints:
     async def outcome(self, request: web.Request) -> web.Response:
         number = request.match_info["number"]
         if (outcome := self._collector.outcomes.get(number)) is None:
+            if not self._collector.has_all:
+                raise Problem(503, "Unavailable", "the queue is being read: ask again", 1)
             raise Problem(
                 404, "UnknownOperation", "no such operation is known: look the name up, and ask again if it lacks the key"
             )

@@ -7,21 +7,21 @@ import logging
 import os
 import secrets
 import stat
+import threading
 import time
 from contextlib import ExitStack
 from dataclasses import dataclass
-from functools import lru_cache
 from pathlib import Path
 from typing import Any, Optional, Union
 
 import ecvrf
 from coniks import Policy
 from coniks.guard import Guard
-from coniks.provider import FileLog, Provider
+from coniks.provider import FileLog, Provider, Settings
 from coniks.replica import Replica
 from keys import PublicKeys, is_signed
 from nacl.signing import SigningKey
-from provider import Indices
+from outside import KeyFailed, Outside
 from queueing import Queue, in_file, in_postgres
 
 LOG = logging.getLogger("service")
@@ -30,33 +30,81 @@ _ROOM = 100_000
 _SIGNING, _VRF, _POLICY = "signing.key", "vrf.key", "policy"
 
 
-class Keys(Indices):
-    """The secret keys in a folder, and the policy. A replica signs nothing: its folder needs no signing key, and none is read. The VRF
-    proof of a name is computed once, and kept while there is room."""
+@dataclass(frozen=True)
+class Sources:
+    """The processes that have a key in the place of the folder: one that signs, and one that makes VRF proofs."""
 
-    def __init__(self, folder: Path, is_replica: bool = False):
-        vrf = _secret(folder / _VRF)
-        super().__init__(vrf)
-        self.policy = Policy.read((folder / _POLICY).read_bytes())
-        self._signer = None if is_replica else SigningKey(_secret(folder / _SIGNING))
-        signing = bytes(self._signer.verify_key) if self._signer else self.policy.signing_key
-        self.keys = PublicKeys(signing, ecvrf.public_key(vrf))
-        if (self.policy.signing_key, self.policy.vrf_key) != (self.keys.signing, self.keys.vrf):
+    signer: Optional[Outside] = None
+    prover: Optional[Outside] = None
+
+
+class Keys:
+    """The policy, and what uses the secret keys: those in a folder, or other processes in their place. What comes from these is verified
+    under the policy's keys before it is used. A replica signs nothing: its folder needs no signing key, and none is read. The VRF proof
+    of a name is computed once, and kept while there is room."""
+
+    def __init__(self, folder: Path, is_replica: bool = False, sources: Sources = Sources()):
+        self._vrf = b"" if sources.prover else _secret(folder / _VRF)
+        self._signer = None if is_replica or sources.signer else SigningKey(_secret(folder / _SIGNING))
+        self.policy = policy = Policy.read((folder / _POLICY).read_bytes())
+        if policy.vrf_key is None:
+            raise ValueError(f"{folder / _POLICY} has no VRF, whose proofs the service sends: make a directory with one")
+        self.keys, self._sources = PublicKeys(policy.signing_key, policy.vrf_key), sources
+        signing = bytes(self._signer.verify_key) if self._signer else policy.signing_key
+        if self.keys != PublicKeys(signing, ecvrf.public_key(self._vrf) if self._vrf else policy.vrf_key):
             raise ValueError(f"the keys in {folder} are not those of its policy: start with the directory's own keys")
-        if self.policy.epoch_start is None or self.policy.epoch_period is None:
+        if policy.epoch_start is None or policy.epoch_period is None:
             raise ValueError(f"{folder / _POLICY} has no clock, by which the service commits: make a directory with one")
-        self.start, self.period = self.policy.epoch_start, self.policy.epoch_period
+        self.start, self.period = policy.epoch_start, policy.epoch_period
+        # The VRF proof and the index of each name that was proved last.
+        self._kept: dict[str, tuple[bytes, bytes]] = {}
+        self._keeping = threading.Lock()
 
     def sign(self, body: bytes) -> bytes:
-        assert self._signer
-        return self._signer.sign(body).signature
+        if self._signer:
+            return self._signer.sign(body).signature
+        assert self._sources.signer
+        signature = self._sources.signer.ask("signature", 64, cmd="sign", body=body.hex())
+        if not self.verify(body, signature):
+            raise KeyFailed(f"{self._sources.signer} returned no signature of this body by the policy's key: see which key it has")
+        return signature
 
     def verify(self, body: bytes, signature: bytes) -> bool:
         return is_signed(self.keys.signing, body + signature)
 
-    @lru_cache(_ROOM)
+    def index(self, name: str) -> bytes:
+        return self._proved(name)[1]
+
     def proof(self, name: str) -> bytes:
-        return super().proof(name)
+        return self._proved(name)[0]
+
+    def kept_proof(self, name: str) -> Optional[bytes]:
+        """The VRF proof of a name if it is kept, so that nothing is computed or waited for."""
+        kept = self._kept.get(name)
+        return kept and kept[0]
+
+    def _proved(self, name: str) -> tuple[bytes, bytes]:
+        """The VRF proof of a name, and its index."""
+        if kept := self._kept.get(name):
+            return kept
+        proved = self._prove(name)
+        with self._keeping:
+            if len(self._kept) >= _ROOM:
+                # The one that was proved first.
+                del self._kept[next(iter(self._kept))]
+            self._kept[name] = proved
+        return proved
+
+    def _prove(self, name: str) -> tuple[bytes, bytes]:
+        prover = self._sources.prover
+        if prover is None:
+            proof = ecvrf.prove(self._vrf, name.encode())
+            return proof, ecvrf.output(proof)[:32]
+        proof = prover.ask("proof", ecvrf.PROOF_LENGTH, cmd="prove", name=name)
+        try:
+            return proof, ecvrf.verify(self.keys.vrf, name.encode(), proof)[:32]
+        except ecvrf.InvalidProof:
+            raise KeyFailed(f"{prover} returned no proof of this name by the policy's VRF key: see which key it has") from None
 
 
 def _secret(path: Path) -> bytes:
@@ -80,16 +128,35 @@ class Terms:
     records_vouched: bool = False
 
 
-def make_keys(folder: Path, terms: Terms) -> None:
-    """Draws both keys and writes the policy. Raises `FileExistsError` if there is one of them."""
+def make_keys(folder: Path, terms: Terms, sources: Sources = Sources()) -> None:
+    """Draws the keys that no other process has, and writes the policy. Raises `FileExistsError` if there is one of these files."""
     signing, vrf = (secrets.token_bytes(32) for _ in range(2))
-    policy = Policy(signing_key=bytes(SigningKey(signing).verify_key), vrf_key=ecvrf.public_key(vrf), **vars(terms))
+    signing_key, vrf_key = bytes(SigningKey(signing).verify_key), ecvrf.public_key(vrf)
+    if sources.signer:
+        signing_key = _public_key_of(sources.signer, "signing-key")
+    if sources.prover:
+        vrf_key = _public_key_of(sources.prover, "vrf-key")
+    policy = Policy(signing_key=signing_key, vrf_key=vrf_key, **vars(terms))
+    files = [(_SIGNING, signing, sources.signer), (_VRF, vrf, sources.prover), (_POLICY, bytes(policy), None)]
     folder.mkdir(mode=0o700, parents=True, exist_ok=True)
-    for name, data in [(_SIGNING, signing), (_VRF, vrf), (_POLICY, bytes(policy))]:
-        with open(folder / name, "xb", opener=lambda path, flags: os.open(path, flags, 0o600)) as file:
-            file.write(data)
-            file.flush()
-            os.fsync(file.fileno())
+    for name, data, other in files:
+        if other is None:
+            _write(folder / name, data)
+
+
+def _public_key_of(source: Outside, command: str) -> bytes:
+    key = source.ask("key", 32, cmd=command)
+    if not ecvrf.is_key(key):
+        raise KeyFailed(f"{source} returned no key of its scheme: see which key it has")
+    return key
+
+
+def _write(path: Path, data: bytes) -> None:
+    """Writes a file that only its owner may read."""
+    with open(path, "xb", opener=lambda path, flags: os.open(path, flags, 0o600)) as file:
+        file.write(data)
+        file.flush()
+        os.fsync(file.fileno())
 
 
 @dataclass(frozen=True)
@@ -132,7 +199,7 @@ class Holder:
         self.keys = keys
         if is_replica and not places.is_database:
             raise ValueError("a replica needs a log in PostgreSQL: pass --database")
-        more: dict[str, Any] = {"policy": keys.policy, "vrf_public_key": keys.keys.vrf, "verify": keys.verify, "timeout": 30}
+        settings = Settings(places.program, keys.index, keys.policy, vrf_public_key=keys.keys.vrf, verify=keys.verify, timeout=30)
         with ExitStack() as opened:
             self.log = log = opened.enter_context(places.open_log(create))
             # The directory, and what waits for it, if this process writes.
@@ -141,8 +208,8 @@ class Holder:
             if not is_replica:
                 guard = places.open_guard(keys, **{"new_directory": True} if create else {})
                 # An update whose signature fails keeps no lookup back: the first commit has it signed.
-                self.provider = Provider(places.program, keys.index, guard, log, sign_pending=False, **more)
-            self.directory: Union[Provider, Replica] = self.provider or Replica(log, places.program, keys.index, **more)
+                self.provider = Provider(settings, guard, log, sign_pending=False)
+            self.directory: Union[Provider, Replica] = self.provider or Replica(settings, log)
             opened.enter_context(self.directory)
             if self.provider:
                 self.queue = places.open_queue(keys.policy)

@@ -2,16 +2,21 @@
 
 from __future__ import annotations
 
-import base64
+import binascii
 import json
 import math
 import re
+from contextlib import suppress
 from http import HTTPStatus
 from typing import Any, Mapping
-from urllib.parse import parse_qsl
+from urllib.parse import unquote
 
 from aiohttp import web
 from coniks.names import BadName, canonical
+
+
+# One text for each key: with its padding, whose unused bits are zero.
+_BASE64 = re.compile("(?:[A-Za-z0-9+/]{4})*(?:[A-Za-z0-9+/][AQgw]==|[A-Za-z0-9+/]{2}[AEIMQUYcgkosw048]=)?")
 
 
 class Problem(Exception):
@@ -39,16 +44,18 @@ def json_reply(members: Mapping[str, Any], status: int = 200, kind: str = "appli
 def query_of(request: web.Request, *known: str) -> dict[str, str]:
     """The parameters of a request's target as it was sent. Each is known, is there once, and is percent-encoded UTF-8. A bare plus
     could be a space too."""
-    text = request.raw_path.partition("?")[2]
-    try:
-        pairs = parse_qsl(text, keep_blank_values=True, strict_parsing=bool(text), errors="strict")
-    except ValueError:
-        pairs = []
-    if "+" in text or len(dict(pairs)) < max(len(pairs), bool(text)) or not dict(pairs).keys() <= set(known):
+    text, found = request.raw_path.partition("?")[2], dict[str, str]()
+    for pair in text.split("&") if text else ():
+        name, is_there, value = pair.partition("=")
+        with suppress(UnicodeDecodeError):
+            name = unquote(name, errors="strict")
+            if is_there and "+" not in pair and name in known and name not in found:
+                found[name] = unquote(value, errors="strict")
+                continue
         raise Problem(
             400, "Request", f"the parameters are {' and '.join(known) or 'none'}, each at most once, in percent-encoded UTF-8"
         )
-    return dict(pairs)
+    return found
 
 
 def name_of(text: str) -> str:
@@ -79,10 +86,7 @@ def members_of(body: bytes, *known: str) -> dict[str, str]:
 
 def key_of(text: str) -> bytes:
     """A key in base64."""
-    try:
-        key = base64.b64decode(text.encode(), validate=True)
-    except ValueError:
-        key = b""
-    if not 1 <= len(key) <= 16384 or base64.b64encode(key).decode() != text:
+    key = binascii.a2b_base64(text) if _BASE64.fullmatch(text) else b""
+    if not 1 <= len(key) <= 16384:
         raise Problem(400, "Request", "a key has 1 to 16,384 bytes, in base64 with its padding")
     return key

@@ -32,7 +32,8 @@ def put_program(room: Path, name: str, program: Path) -> None:
     put(room, Path(f"crates/{name}/out/{name}"), program)
 
 
-def put_archive(room: Path, archive: Path = TOP / ARCHIVE) -> None:
-    """Puts the archive of the library for C, if it is there."""
+def put_archive(room: Path) -> None:
+    """Puts the archive of the library for C that `embed/build` made last, if it is there."""
+    archive = TOP / "embed/out/libconiks.a"
     if archive.is_file():
         put(room, ARCHIVE, archive)

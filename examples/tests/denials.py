@@ -15,6 +15,8 @@ import aiohttp
 # The lookups of all honest users in a second, their addresses, and that of the attacker.
 LOOKUPS, USERS, ATTACKER = 50, [f"127.0.0.{it}" for it in range(2, 7)], "127.0.0.7"
 FAR = 2**64 - 1
+# The seconds between two readings of the clock of the honest users.
+_PAUSE = 0.005
 _LONG = b"x" * 65536
 _HEAD = b" HTTP/1.1\r\nHost: a\r\n"
 _BODY = b'{"op":"register","name":"mallory","key":"a2V5"}'
@@ -45,13 +47,15 @@ ATTACKS = {
 }
 
 
-def attack(port: int, attack: Attack, seconds: float) -> int:
-    """Attacks a service from one address, in a process of its own. Returns how many connections were opened. As one from another machine,
-    it takes no processor time that the service and its users need.
-    """
+def become_attacker() -> None:
+    """Makes this process one that attacks. As one on another machine, it takes no processor time that the service and its users need."""
     os.nice(19)
     hard = resource.getrlimit(resource.RLIMIT_NOFILE)[1]
     resource.setrlimit(resource.RLIMIT_NOFILE, (hard, hard))
+
+
+def attack(port: int, attack: Attack, seconds: float) -> int:
+    """Attacks a service from one address. Returns how many connections were opened."""
     return asyncio.run(_attack(port, attack, time.monotonic() + seconds))
 
 
@@ -90,18 +94,42 @@ async def _send(reader: asyncio.StreamReader, writer: asyncio.StreamWriter, atta
 
 
 def honest(port: int, names: int, seconds: float) -> list[float]:
-    """Looks names up as the honest users do, each time by a new connection. Returns the seconds from when each was due to its reply. One
-    without a reply in five seconds counts as five.
+    """Looks names up as the honest users do, each time by a new connection. Returns the seconds from when each was due to its reply,
+    without those in which this process stood still as well. One without a reply in five seconds counts as five.
     """
     return asyncio.run(_honest(port, names, time.monotonic(), seconds))
 
 
 async def _honest(port: int, names: int, start: float, seconds: float) -> list[float]:
-    count = int(LOOKUPS * seconds)
-    return sum(await asyncio.gather(*(_user(port, names, start, range(it, count, len(USERS))) for it in range(len(USERS)))), [])
+    count, clock = int(LOOKUPS * seconds), _Clock()
+    users = (_user(port, names, start, range(it, count, len(USERS)), clock) for it in range(len(USERS)))
+    task = asyncio.ensure_future(clock.run())
+    try:
+        return sum(await asyncio.gather(*users), [])
+    finally:
+        task.cancel()
 
 
-async def _user(port: int, names: int, start: float, turns: range) -> list[float]:
+class _Clock:
+    """Notices when this process stands still, because its machine is busy with something else than the service."""
+
+    def __init__(self) -> None:
+        # When a pause ended, and by how much it was too long.
+        self._late = list[tuple[float, float]]()
+
+    async def run(self) -> None:
+        while True:
+            due = time.monotonic() + _PAUSE
+            await asyncio.sleep(_PAUSE)
+            if (late := time.monotonic() - due) > _PAUSE:
+                self._late.append((due + late, late))
+
+    def stood_still(self, start: float, end: float) -> float:
+        """For how long it stood still between two times."""
+        return sum(max(0, min(end, ended) - max(start, ended - late)) for ended, late in self._late)
+
+
+async def _user(port: int, names: int, start: float, turns: range, clock: _Clock) -> list[float]:
     address, draw = USERS[turns.start], random.Random(turns.start)
     connector = aiohttp.TCPConnector(local_addr=(address, 0), force_close=True)
     timeout = aiohttp.ClientTimeout(total=5)
@@ -114,7 +142,8 @@ async def _user(port: int, names: int, start: float, turns: range) -> list[float
                 async with session.get(f"/v1/lookup?name=name{draw.randrange(names)}") as found:
                     await found.read()
                     if found.status == 200:
-                        return time.monotonic() - due
+                        end = time.monotonic()
+                        return end - due - clock.stood_still(due, end)
             return 5
 
         return [await look_up(it) for it in turns]

@@ -132,7 +132,9 @@ class Running:
         """What becomes of an operation that waits."""
         if answer.status != 202:
             return answer
-        return until(lambda: it if (it := self.get(answer.headers["location"], Prefer="wait=15")).status != 202 else None)
+        return until(
+            lambda: it if (it := self.get(answer.headers["location"], Prefer="wait=15")).status not in (202, 503) else None
+        )
 
     def resident(self) -> int:
         """The memory of the service in bytes."""

@@ -44,7 +44,7 @@ def publish(document): pass
 NEXT_EPOCH = "time.time = lambda: now() + 3600\n"
 
 # The tool of scripts/tools.py that a block needs, by a text in the block.
-NEEDS = {"import ecvrf": "PyNaCl", "examples/provider/run": "PyNaCl", "embed/build": "a C compiler"}
+NEEDS = {"import ecvrf": "PyNaCl", "examples/provider/run": "PyNaCl", "embed/build": "a C compiler", "coniks.guard": "a C compiler"}
 
 
 class Block(NamedTuple):
@@ -98,6 +98,11 @@ def room(keydir: str, program: str) -> Iterator[Path]:
         yield room
 
 
+def needs_archive(room: Path) -> None:
+    if not (room / ARCHIVE).is_file():
+        pytest.skip("the archive of coniks_c is missing")
+
+
 def first_line(block: Block) -> str:
     return block.text.splitlines()[0]
 
@@ -107,8 +112,8 @@ def test_block(room: Path, block: Block) -> None:
     for part, tool in NEEDS.items():
         if part in block.text and not tools.has(tool):
             pytest.skip(f"{tool} is missing")
-    if "embed/build" in block.text and not (room / ARCHIVE).is_file():
-        pytest.skip("the archive of coniks_c is missing")
+    if "embed/build" in block.text or "coniks.guard" in block.text:
+        needs_archive(room)
     check(room, block.language, block.text, block.output)
     if block.language == "python":
         again = run(room, block.language, block.text)
@@ -130,6 +135,8 @@ def test_guide(room: Path) -> None:
     """A reader of docs/GUIDE.md who runs each block gets a directory, and commits at the next epoch."""
     if not tools.has("PyNaCl"):
         pytest.skip("PyNaCl is missing")
+    needs_archive(room)
+    check(room, "sh", "embed/build", None)
     *before, opens = [it for section in SECTIONS for it in code_of(section)]
     for it in room.glob("names.*"):
         it.unlink()

@@ -33,7 +33,7 @@ RUN = {
     "Make the directory": 3,
     "Tokens": 2,
     "Compact": 1,
-    "Back up and restore": 2,
+    "Back up and restore": 3,
     "Drop log lines": 1,
     "Move to another machine": 2,
     "Upgrade and roll back": 2,
@@ -80,7 +80,7 @@ def checkout(packages: None, program: str, keydir: str, tmp_path_factory: pytest
     put_program(room, "provider", Path(program))
     put_program(room, "keydir", Path(keydir))
     shutil.copytree(TOP / "embed/out", room / "embed/out")
-    put_archive(room, TOP / "embed/out/libconiks.a")
+    put_archive(room)
     return room
 
 
@@ -174,10 +174,12 @@ def test_back_up_and_restore(machine: Machine, token: str) -> None:
     machine.do(block("Back up and restore"))
     machine.do("systemctl stop coniks-directory")
     machine.do(block("Back up and restore"))
+    told = json.loads(machine.do(block("Back up and restore", 1)))
+    assert told["ok"] == "replay" and told["names"] >= 1, told
     entries = machine.do("sha256sum < /var/lib/coniks/names.log")
     record = machine.do("cat /var/lib/coniks-guard/names.guard")
     machine.do("shred -n 1 /var/lib/coniks/names.log")
-    machine.do(block("Back up and restore", 1))
+    machine.do(block("Back up and restore", 2))
     assert machine.do("sha256sum < /root/backup/names.log") == entries
     wait(machine)
     assert lookup(machine, "alice").endswith(key)
@@ -190,10 +192,10 @@ def test_old_backup(machine: Machine, token: str) -> None:
     machine.do(block("Back up and restore"))
     assert operate(machine, "change", b"other", token) == "200"
     machine.do("rm -rf /root/damaged")
-    machine.do(block("Back up and restore", 1))
+    machine.do(block("Back up and restore", 2))
     until(lambda: "LogBehind" in machine.do("tail -n 1 /var/log/coniks-directory"))
     machine.do("cp /root/damaged/names.log* /root/backup/; rm -r /root/damaged")
-    machine.do(block("Back up and restore", 1))
+    machine.do(block("Back up and restore", 2))
     wait(machine)
     assert lookup(machine, "alice").endswith(b"other")
 

@@ -18,7 +18,7 @@ pytest.importorskip("aiohttp")
 pytest.importorskip("nacl.signing")
 
 from coniks.provider import Register
-from denials import ATTACKS, attack, honest
+from denials import ATTACKS, attack, become_attacker, honest
 from loads import percentile
 from services import Running, until
 
@@ -54,8 +54,8 @@ def attacked(
 
 @pytest.fixture(scope="module")
 def attacker() -> Iterator[ProcessPoolExecutor]:
-    """A process that has begun."""
-    with ProcessPoolExecutor(1, multiprocessing.get_context("spawn")) as pool:
+    """A process that has begun and imported what attacks, which would take time from the first honest users."""
+    with ProcessPoolExecutor(1, multiprocessing.get_context("spawn"), become_attacker) as pool:
         pool.submit(time.sleep, 0).result()
         yield pool
 

@@ -398,10 +398,10 @@ def test_killed_child(program: str, tmp_path: Path, caplog: pytest.LogCaptureFix
 
 
 @pytest.mark.parametrize(
-    "options", [["--period", "60", "--kept", "7776000"], ["--period", "1", "--kept", "49153"], ["--period", "0"]]
+    "options", [["--period", "60", "--kept", str(60 * 10**12)], ["--period", "1", "--kept", str(10**12)], ["--period", "0"]]
 )
 def test_made_to_stop(program: str, tmp_path: Path, options: list[str]) -> None:
-    """A directory that would stop for want of room is not made."""
+    """A directory whose promised epochs need more memory than a machine has is not made."""
     place = ["--log", str(tmp_path / "log"), "--guard", str(tmp_path / "guard"), "--program", program]
     words = [
         PYTHON,
@@ -415,7 +415,7 @@ def test_made_to_stop(program: str, tmp_path: Path, options: list[str]) -> None:
         *options,
     ]
     ran = subprocess.run(words, capture_output=True, text=True)
-    assert ran.returncode == 1 and "room" in ran.stderr and "--period" in ran.stderr and not any(tmp_path.iterdir())
+    assert ran.returncode == 1 and "memory" in ran.stderr and "--period" in ran.stderr and not any(tmp_path.iterdir())
 
 
 def test_long_stop(program: str, tmp_path: Path, monkeypatch: pytest.MonkeyPatch) -> None:

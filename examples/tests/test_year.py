@@ -231,7 +231,7 @@ class Year:
         """The disk of the log is lost just after a backup."""
         self.do("Back up and restore")
         self.machine.do(f"{KILL}; shred -n 1 /var/lib/coniks/names.log")
-        self.do("Back up and restore", 1)
+        self.do("Back up and restore", 2)
         self.wait()
 
     def restore_old(self) -> None:
@@ -239,10 +239,10 @@ class Year:
         self.do("Back up and restore")
         self.hours(2, names=1)
         self.machine.do("rm -rf /root/damaged")
-        self.do("Back up and restore", 1)
+        self.do("Back up and restore", 2)
         until(lambda: "LogBehind" in self.machine.said())
         self.machine.do("cp /root/damaged/names.log* /root/backup/")
-        self.do("Back up and restore", 1)
+        self.do("Back up and restore", 2)
         self.wait()
 
     def lose_guard(self) -> None:
