@@ -37,9 +37,9 @@ TESTS = [
     ("coniks_directory_tests", "tests::refused::commit_in_prepare", False),
     ("coniks_directory_tests", "tests::refused::commit_in_install", False),
     ("coniks_directory_tests", "tests::refused::lookup::refused_in_turn", False),
-    ("coniks_directory_tests", "tests::refused::lookup_at", False),
+    ("coniks_directory_tests", "tests::refused::signed_lookup_at", False),
     ("coniks_directory_tests", "tests::refused::supply", False),
-    ("coniks_directory_tests", "tests::refused::prepare_supplied", False),
+    ("coniks_directory_tests", "tests::refused::prepare_owned", False),
     ("coniks_directory_tests", "tests::refused::install_supplied", False),
     ("coniks_directory_tests", "tests::refused::restore::page", False),
     ("coniks_directory_tests", "tests::refused::restore::add", False),
@@ -81,10 +81,10 @@ FEWEST = 512
 # While the command line is read one request is for room that reading can do without.
 SPARED = 1
 
-# What each kind of call that fails leads to, after the program's name. Only the programs that hold a directory have a board.
+# What each kind of call that fails leads to, after the program's name. Only `keydir run` has a board.
 NO_BOARD = "no board"
 TEXTS = {"memory": ["out of memory", NO_BOARD], "read": ["read failed"], "write": ["write failed"], "stall": ["write failed"]}
-WITH_BOARD = ["run", "provider"]
+WITH_BOARD = ["run"]
 
 
 # Lines that a program reads, each by its members.
@@ -193,7 +193,7 @@ def try_program(library: str, run: CaseRun, kind: str) -> str:
     if texts[-1] or len(texts) < 2 or borne < 0 or (borne > 0) != (kind == "memory" and run.has_workers):
         raise Wrong(f"{kind}: of {len(texts) - 1} failures {borne} changed nothing, and the run without one told {texts[-1]}")
     if kind == "memory" and (NO_BOARD in texts) != run.has_board:
-        raise Wrong("memory: want of a board is told by run and provider, and by no other")
+        raise Wrong("memory: want of a board is told by run, and by no other")
     return f"{len(texts) - 1} failures" + f", {borne} without a fault" * (borne > 0)
 
 

@@ -96,6 +96,7 @@ OF_CLIENTS = [
     "cases/second/policy.py",
     "embed/tests/client_sides.py",
 ]
+OF_JAVA = ["embed/java/**", "embed/c/client*", "embed/tests/java_clients.py", "embed/tests/native_clients.py", "include/*"]
 # What the packages for other languages are compared with.
 OF_SIDES = ["include/coniks.h", "include/coniks_core.h", "embed/texts.json", "embed/sample", "embed/proof_bytes.py"]
 OF_SIDES += [f"embed/tests/{it}.py" for it in ("conftest", "messages", "model", "running", "samples", "sides")]
@@ -109,15 +110,21 @@ OF_CONTACTS = package("contacts", "_person", "_own_names", "_confirming", "_tell
 PYTHON = [
     Part(
         "the guard",
-        [*package("guard", "_files"), *tests("provider", "conftest", "guard_ends", "bodies", "interrupts", "kills")],
+        [
+            *package("guard", "_guarding", "_files"),
+            *tests("provider", "conftest", "guard_ends", "bodies", "interrupts", "kills"),
+            FORMATS,
+        ],
         tests("provider", "test_guards", "test_guard_ends"),
         SHORT,
+        library=True,
     ),
     Part(
         "the guard in PostgreSQL",
-        [*package("guard", "_postgres_guard"), *OF_CLUSTERS],
+        [*package("guard", "_guarding", "_postgres_guard"), *OF_CLUSTERS],
         tests("cluster", "test_row_guards"),
         SHORT,
+        library=True,
         alone=True,
     ),
     Part(
@@ -128,37 +135,44 @@ PYTHON = [
             "embed/python/tests/provider/first_format.jsonl",
         ],
         tests("provider", "test_formats", "test_mistakes"),
+        library=True,
     ),
     Part(
         "what a provider does",
         [*package("_host", "_engine", "_directory", "_lines", "_threads", "log"), *OF_PROVIDERS],
         tests("provider", "test_units", "test_records"),
+        library=True,
     ),
     Part(
         "policies and clocks",
         [*package("policy", "_host", "provider"), *tests("provider", "worked_examples"), FORMATS],
         tests("provider", "test_policies", "test_clocks"),
+        library=True,
     ),
     Part(
         "children",
-        [*package("_children", "_host", "_engine", "_threads"), *OF_PROVIDERS, *tests("provider", "lying", "obeying")],
+        [*package("_children", "_host", "_engine", "_threads"), *OF_PROVIDERS, *tests("provider", "lying", "obeying", "stored")],
         tests("provider", "test_children"),
+        library=True,
     ),
     Part(
         "one chain",
         [*package("_directory", "_host", "_engine", "guard"), *OF_PROVIDERS, *tests("provider", "one_chain")],
         tests("provider", "test_one_chain"),
+        library=True,
     ),
     Part(
         "steps of a commit",
         [*package("_host", "_directory", "log"), *OF_PROVIDERS, *tests("provider", "steps")],
         tests("provider", "test_steps"),
+        library=True,
     ),
     Part(
         "honest runs",
         [*package("_host", "_directory", "guard", "log", "replica"), *OF_PROVIDERS],
         tests("provider", "test_honest"),
         ["--honest", "20"],
+        library=True,
     ),
     Part(
         "snapshots",
@@ -168,41 +182,61 @@ PYTHON = [
             *tests("provider", "snapshots"),
         ],
         tests("provider", "test_snapshots", "test_snapshot_files"),
+        library=True,
+    ),
+    Part(
+        "replays",
+        [*package("_engine", "_restoring", "_snapshot_lines", "log"), *OF_PROVIDERS, "cases/replay/*", "cases/case_files.py"],
+        tests("provider", "test_replays"),
+        library=True,
     ),
     Part(
         "kills of a provider",
         [*package("_host", "_children", "_files", "log"), *tests("provider", "kills", "stand_ins")],
         tests("provider", "test_kills"),
         ["--kills", "2"],
+        library=True,
     ),
     Part(
         "interrupts of a provider",
         tests("provider", "interrupts"),
         tests("provider", "test_interrupts"),
+        library=True,
     ),
     Part(
         "the log in PostgreSQL",
         [*package("postgres"), *OF_CLUSTERS],
         tests("cluster", "test_logs", "test_log_refusals"),
+        library=True,
         alone=True,
     ),
-    Part("ends of its calls", [*package("postgres"), *OF_CLUSTERS], tests("cluster", "test_log_ends"), SHORT, alone=True),
+    Part(
+        "ends of its calls",
+        [*package("postgres"), *OF_CLUSTERS],
+        tests("cluster", "test_log_ends"),
+        SHORT,
+        library=True,
+        alone=True,
+    ),
     Part(
         "replicas",
         [*package("replica", "postgres", "_host", "_engine"), *OF_CLUSTERS],
         tests("cluster", "test_replicas"),
+        library=True,
         alone=True,
     ),
     Part(
         "snapshots of a cluster",
         [*package("_postgres_snapshot", "_restoring", "replica", "postgres"), *OF_CLUSTERS],
         tests("cluster", "test_shared_snapshots"),
+        library=True,
         alone=True,
     ),
     Part(
         "mistakes in a cluster",
         [*package("replica", "postgres"), *OF_CLUSTERS],
         tests("cluster", "test_cluster_mistakes"),
+        library=True,
         alone=True,
     ),
     Part(
@@ -210,6 +244,7 @@ PYTHON = [
         [*package("replica", "postgres"), *OF_CLUSTERS, *tests("cluster", "cluster_faults"), "examples/cluster/node.py"],
         tests("cluster", "test_cluster_faults"),
         ["--faults", "1"],
+        library=True,
         alone=True,
     ),
     Part(
@@ -239,20 +274,25 @@ PYTHON = [
     ),
     Part(
         "auditors",
-        [*package("audit", "notes", "_http", "commands"), *tests("audit", "*"), "embed/python/bin/coniks-audit", FORMATS],
-        tests("audit", "test_audit", "test_notes"),
+        [
+            *package("audit", "notes", "_http", "_telling", "commands"),
+            *tests("audit", "*"),
+            "embed/python/bin/coniks-audit",
+            FORMATS,
+        ],
+        tests("audit", "test_audit", "test_audit_verdicts", "test_notes"),
         library=True,
     ),
     Part(
         "coniks-client",
         [
             *OF_CONTACTS,
-            *package("_client_state", "_http", "client", "notes"),
+            *package("_client_state", "_http", "client", "notes", "audit"),
             *tests("contacts", "*"),
             "embed/python/bin/coniks-client",
             FORMATS,
         ],
-        tests("contacts", "test_contacts", "test_confirming", "test_trust"),
+        tests("contacts", "test_contacts", "test_confirming", "test_marks", "test_telling", "test_trust"),
         library=True,
     ),
     Part(
@@ -281,7 +321,7 @@ SHARED_BY_SERVICES = [
 SERVICE = [
     Part(
         f"the service: {name}",
-        ["examples/service/**", *SHARED_BY_SERVICES, *package(*modules.split())],
+        ["examples/service/**", *SHARED_BY_SERVICES, *package(*modules.split()), *([FORMATS] if name == "signers" else [])],
         [f"examples/tests/test_service_{name}.py"],
         library=True,
         alone=name in ("operation", "load", "denial"),
@@ -298,6 +338,7 @@ SERVICE = [
         "alarms": "audit",
         "load": "",
         "denial": "_children _replies",
+        "signers": "_ecvrf guard",
     }.items()
 ]
 
@@ -328,6 +369,12 @@ LANGUAGES = [
         library=True,
     ),
     Part("the client in Go", ["embed/go/client/**", FORMATS], ["embed/tests/test_client_in_go.py"], library=True),
+    Part("the client in Java", [*OF_JAVA, "embed/go/testdata/*"], ["embed/tests/test_client_in_java.py"], library=True),
+    Part(
+        "the client in C for ARM",
+        ["embed/c/client*", "embed/tests/native_clients.py", "embed/build", "scripts/unproved-library", *OF_CLIENTS],
+        ["embed/tests/test_client_on_arm.py"],
+    ),
     Part(
         "the core of a client in C",
         ["include/coniks_core.h", "embed/c/core_stack.c", "embed/c/painted.h", *CORE_TESTS, *OF_CLIENTS],
@@ -337,17 +384,31 @@ LANGUAGES = [
     ),
     Part(
         "the core in all that can happen",
-        ["include/coniks_core.h", "embed/c/core_worlds.c", *package("_core")],
+        ["include/coniks_core.h", "include/coniks_guard.h", "embed/c/core_worlds.c", *package("_core", "_guarding")],
         ["embed/tests/test_core_worlds.py", "embed/tests/test_core_header.py"],
         library=True,
     ),
+    Part(
+        "the guard in C",
+        [
+            *package("_guarding"),
+            "include/coniks_guard.h",
+            "embed/c/guard_stack.c",
+            "embed/c/painted.h",
+            "cases/second/guard.py",
+            FORMATS,
+        ],
+        ["embed/tests/test_guard_calls.py"],
+        library=True,
+    ),
     Part("the package in Rust", ["embed/rust/**", *OF_SIDES], ["embed/tests/test_side_in_rust.py"], library=True),
+    # Java is a part of the name of JavaScript.
     *[
         Part(
             f"cases of the client in {language}",
             [*of, *OF_CLIENTS],
             ["embed/tests/test_clients.py"],
-            ["-k", language, "--alterations", "40"],
+            ["-k", f"{language} and not {language}Script", "--alterations", "40"],
             library=language != "JavaScript",
             module=language == "JavaScript",
         )
@@ -356,6 +417,7 @@ LANGUAGES = [
             "Rust": ["embed/rust/**"],
             "JavaScript": ["web/src/*", "web/client_answers.mjs"],
             "C": ["embed/c/client*", "embed/tests/native_clients.py"],
+            "Java": OF_JAVA,
         }.items()
     ],
     Part(
@@ -367,8 +429,19 @@ LANGUAGES = [
     ),
     Part(
         "the modules in JavaScript",
-        ["web/src/*", "web/telling.mjs", "web/build", FORMATS],
-        [f"web/tests/{it}.test.mjs" for it in ("arguments", "client", "client_arguments", "following", "keys", "page", "watch")],
+        [
+            "web/src/*",
+            "web/telling.mjs",
+            "web/build",
+            "cases/client/*",
+            "embed/texts.json",
+            "web/tests/proofs.json",
+            FORMATS,
+        ],
+        [
+            f"web/tests/{it}.test.mjs"
+            for it in ("arguments", "client", "client_arguments", "following", "keys", "page", "rows", "sayings", "verdicts")
+        ],
         module=True,
     ),
 ]
@@ -418,7 +491,7 @@ PAGES = [
     ),
     Part(
         "the page over a service",
-        ["web/follow.html", "web/src/follow*.js", "web/src/confirming.js", "web/src/notes.js", "examples/service/**", *OF_PAGES],
+        ["web/follow.html", "web/src/*", "examples/service/**", *OF_PAGES],
         ["web/page_tests/test_follow_service.py"],
         library=True,
         module=True,
@@ -426,20 +499,21 @@ PAGES = [
 ]
 
 # The folders of cases that each second program passes.
-SECOND = {"keydir": ["run", "check", "audit", "monitor"], "provider": ["provider"]}
+SECOND = {"keydir": ["run", "check", "audit", "monitor"], "provider": ["provider", "replay"]}
 CASES = [
     *[
         Part(f"{what} {program}", [*(f"cases/{it}/*" for it in folders), "cases/case_files.py"], [script, place])
         for what, script in (("the cases over", "cases/compare"), ("the streams of", "cases/streams"))
         for program, place, folders in (
             ("keydir", KEYDIR, ["run", "check", "audit", "monitor", "words"]),
-            ("provider", PROVIDER, ["provider", "provider-words"]),
+            ("provider", PROVIDER, ["provider", "provider-words", "replay"]),
         )
     ],
     Part("the hashed byte lists", ["cases/bytes.json"], ["cases/bytes", KEYDIR]),
     Part("wrong programs", ["cases/wrong/*"], ["cases/wrong/told-apart", KEYDIR]),
     Part("provider beside keydir", [], ["cases/like-run", PROVIDER]),
-    Part("a full board", ["cases/full-board.json"], ["cases/full-board", PROVIDER]),
+    Part("many epochs", [], ["cases/epochs", PROVIDER]),
+    Part("a long page", ["cases/limited.py", "cases/size_lines.py"], ["cases/long-page", PROVIDER]),
     Part("a directory of 100,000 names", ["cases/size.json", "cases/size_lines.py", "cases/limited.py"], ["cases/size", KEYDIR]),
     Part("a restored directory", ["cases/restored.json", "cases/limited.py", "cases/size_lines.py"], ["cases/restored", PROVIDER]),
     *[

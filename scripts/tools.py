@@ -18,6 +18,11 @@ from typing import Callable, Optional, Sequence
 CC = os.environ.get("CC", "cc")
 CHROMIUM = os.environ.get("CHROMIUM", "chromium")
 
+# The folder with libsodium.a of Debian's libsodium-dev:arm64, which can be unpacked anywhere (dpkg-deb -x). It is no package of this
+# machine, and the other tools for ARM are installed only if it is there.
+SODIUM_FOR_ARM = Path(os.environ.get("SODIUM_FOR_ARM", "/usr/lib/aarch64-linux-gnu"))
+HAS_SODIUM_FOR_ARM = (SODIUM_FOR_ARM / "libsodium.a").is_file()
+
 # Debian's copy of a Go package, which embed/go/client/debian.mod names too.
 GO_CURVE = Path("/usr/share/gocode/src/filippo.io/edwards25519")
 
@@ -76,11 +81,23 @@ TOOLS: dict[str, tuple[Callable[[], bool], str, str]] = {
     "a C compiler": (lambda: has_program(CC), "gcc libc6-dev", "faults/run and embed/test"),
     "a C++ compiler": (lambda: compiles("", "-fsyntax-only", "-x", "c++"), "g++", "the header as C++"),
     "the headers of OpenSSL": (lambda: compiles("#include <openssl/evp.h>\n", "-E", "-x", "c"), "libssl-dev", "c/audit_signed.c"),
-    "libsodium": (lambda: compiles("#include <sodium.h>\n", "-E", "-x", "c"), "libsodium-dev", "the clients in Rust and C"),
+    "libsodium": (lambda: compiles("#include <sodium.h>\n", "-E", "-x", "c"), "libsodium-dev", "the clients in Rust, C and Java"),
+    "a C compiler for ARM": (
+        lambda: has_program("aarch64-linux-gnu-gcc"),
+        "gcc-aarch64-linux-gnu libc6-dev-arm64-cross" if HAS_SODIUM_FOR_ARM else "",
+        "the client in C for ARM",
+    ),
+    "libsodium for ARM": (lambda: HAS_SODIUM_FOR_ARM, "", "the client in C for ARM"),
+    "qemu": (
+        lambda: has_program("qemu-aarch64-static"),
+        "qemu-user-static" if HAS_SODIUM_FOR_ARM else "",
+        "the client in C for ARM",
+    ),
     "pkg-config": (lambda: has_program("pkg-config"), "pkgconf", "embed/install"),
     "valgrind": (lambda: has_program("valgrind"), "valgrind", "answers under valgrind"),
     "cargo": (lambda: has_program("cargo"), "cargo-web", "the side in Rust"),
     "go": (lambda: has_program("go"), "golang-go", "the side in Go"),
+    "javac": (lambda: has_program("javac") and has_program("java"), "openjdk-17-jdk-headless", "the client in Java"),
     "edwards25519 for Go": (lambda: has_program("go") and GO_CURVE.is_dir(), "golang-filippo-edwards25519-dev", "the client in Go"),
     "pip": (lambda: python_for("packages") is not None, "python3-venv python3-setuptools python3-wheel", "pip install"),
     "PyNaCl": (lambda: python_for("signatures") is not None, "python3-nacl", "signatures by Ed25519 and examples/provider"),

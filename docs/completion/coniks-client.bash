@@ -1,7 +1,7 @@
 # Completion of coniks-client for bash. scripts/install puts it where bash-completion finds it.
 _coniks_client() {
     local word=${COMP_WORDS[COMP_CWORD]} before=${COMP_WORDS[COMP_CWORD - 1]} words
-    local commands="begin register lookup verify watch compare evidence trust set"
+    local commands="begin register lookup verify watch compare evidence note trust set"
     case $before in
     --state | --policy | --token | --trust)
         mapfile -t COMPREPLY < <(compgen -f -- "$word")

@@ -85,7 +85,7 @@ def built(gate: Any, monkeypatch: pytest.MonkeyPatch, room: Path, here: str, fai
 
 
 ARCHIVES = ["archive out", "archive wasm64", "embed/build", "web/build"]
-NEWER = ["cases/bytes ROOM/keydir", "cases/compare ROOM/keydir", "cases/compare ROOM/provider", "cases/full-board ROOM/provider"]
+NEWER = ["cases/bytes ROOM/keydir", "cases/compare ROOM/keydir", "cases/compare ROOM/provider", "cases/epochs ROOM/provider"]
 NEWER += ["cases/like-run ROOM/provider", "cases/streams ROOM/keydir", "cases/streams ROOM/provider"]
 NEWER += ["cases/wrong/told-apart ROOM/keydir", "keydir x86-64-v3 in ROOM", "provider x86-64-v3 in ROOM"]
 

@@ -350,7 +350,7 @@ def test_page(name: str) -> None:
     assert page_forms(name) == {command: help_form(it) for command, it in helps.items()}
     assert page_statuses(name) == help_statuses(text) != {}
     explained = re.findall(r"^\.It Cm (\w+)$", section(name, "DESCRIPTION"), re.M)
-    assert explained == (listed or re.findall(r"\w+", text.partition("\nline: ")[2].partition(" (")[0])) != []
+    assert explained == (listed or re.findall(r"\w+", text.partition("\nline: ")[2].partition("(")[0])) != []
 
 
 def test_command(room: Path, prefix: Path) -> None:
@@ -381,7 +381,8 @@ def test_audit(room: Path, prefix: Path) -> None:
 
 
 @pytest.mark.parametrize(
-    "word, wanted", [("re", "register"), ("", "begin register lookup verify watch compare evidence trust set --help --version")]
+    "word, wanted",
+    [("re", "register"), ("", "begin register lookup verify watch compare evidence note trust set --help --version")],
 )
 def test_completion(word: str, wanted: str) -> None:
     """Bash completes the commands."""

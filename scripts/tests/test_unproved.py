@@ -13,7 +13,7 @@ import tools
 
 TOP = Path(__file__).resolve().parents[2]
 OUT = TOP / "out/unproved"
-HEADERS = "".join((TOP / "include" / it).read_text("utf-8") for it in ("coniks.h", "coniks_core.h"))
+HEADERS = "".join(it.read_text("utf-8") for it in (TOP / "include").glob("*.h"))
 NAMES = re.findall(r"^[a-z0-9_]* (coniks_[a-z_]*)\(", HEADERS, re.M)
 
 # Prints the version, and the length and the text of a status.
