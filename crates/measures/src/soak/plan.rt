@@ -36,10 +36,10 @@ fn number_of(word: &str, most: usize) -> Result<usize>
     Ok(number)
 }
 
-/// Parses the command line, which begins with the program's own name.
-pub fn plan_of(words: &[String]) -> Result<Plan> {
-    match words {
-        [_, epochs, batch, workers, watchers, readers, lookups] => Ok(Plan {
+/// Parses the numbers of a command line.
+pub fn plan_of(numbers: &[String]) -> Result<Plan> {
+    match numbers {
+        [epochs, batch, workers, watchers, readers, lookups] => Ok(Plan {
             epochs: number_of(epochs, MAX_HEADS)?,
             batch: number_of(batch, MAX_OPERATIONS)?,
             workers: number_of(workers, MAX_WORKERS)?,
@@ -50,8 +50,8 @@ pub fn plan_of(words: &[String]) -> Result<Plan> {
         }),
         _ => {
             ensure!(
-                words.len() <= 1,
-                "usage: soak [EPOCHS BATCH WORKERS WATCHERS READERS LOOKUPS]"
+                numbers.is_empty(),
+                "usage: measures soak [EPOCHS BATCH WORKERS WATCHERS READERS LOOKUPS]"
             );
             Ok(Plan {
                 epochs: 20,

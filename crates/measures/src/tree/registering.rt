@@ -1,7 +1,7 @@
 //! A registry of pseudo-random indices, with an epoch for each batch.
 
-use crate::counting::Counting;
-use crate::plan::Plan;
+use crate::tree::counting::Counting;
+use crate::tree::plan::Plan;
 use coniks_proof::{Digest, Hash32, Index, Prefix, Proof, Sha256Hash};
 use coniks_test_support::{NEW_NONCE, NONCE, add, changes_to, known, part_before, record_of};
 use coniks_tree::{Change, OutOfMemory, Part, Record, Root, Tree};

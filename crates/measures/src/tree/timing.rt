@@ -1,7 +1,7 @@
 //! The times of one more batch, of a rotation of the nonce, and of searches of authentication paths.
 
-use crate::plan::Plan;
-use crate::registering::{Registry, index_of};
+use crate::tree::plan::Plan;
+use crate::tree::registering::{Registry, index_of};
 use anyhow::Result;
 use coniks_proof::Index;
 use coniks_tree::Change;

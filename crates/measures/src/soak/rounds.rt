@@ -2,10 +2,10 @@
 
 ghost use Rattle.std.specs.Prelude.{◌≡◌, ◌<◌, ◌≤◌, length, All};
 
-use crate::names::registrations;
-use crate::plan::Plan;
-use crate::provider::{Names, Provider, prepared};
-use crate::reading::wrong_lookups;
+use crate::soak::names::registrations;
+use crate::soak::plan::Plan;
+use crate::soak::provider::{Names, Provider, prepared};
+use crate::soak::reading::wrong_lookups;
 use anyhow::Result;
 use coniks_chain::Entry;
 use coniks_directory::Op;
@@ -136,7 +136,7 @@ fn looks_and_wrong(watches: &[Watch], chain: &[Entry]) -> (u64, u64) {
 }
 
 /// Commits the epochs of a plan beside its watchers and readers.
-pub fn soak<R: Threads + Sync>(rt: &R, alloc: Global, plan: &Plan) -> Result<Counts> {
+pub fn commit_rounds<R: Threads + Sync>(rt: &R, alloc: Global, plan: &Plan) -> Result<Counts> {
     let (board, publisher) = Board::new(alloc, plan.epochs)?;
     let mut provider = Provider::new(alloc, &board, publisher);
     let mut watches = watches_of(alloc, plan.watchers, &mut provider.publisher, &board)?;

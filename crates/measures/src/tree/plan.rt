@@ -60,19 +60,19 @@ fn parallelism_of(workers: &str, depth: &str) -> Result<Parallelism> {
     Ok(Parallelism::new(small_of(workers)?, small_of(depth)?)?)
 }
 
-/// Parses the command line, which begins with the program's own name.
-pub fn plan_of(words: &[String]) -> Result<Plan> {
-    match words {
-        [_, indices, batch] => Ok(batches_of(indices, batch)?),
-        [_, indices, batch, workers, depth] => {
+/// Parses the numbers of a command line.
+pub fn plan_of(numbers: &[String]) -> Result<Plan> {
+    match numbers {
+        [indices, batch] => Ok(batches_of(indices, batch)?),
+        [indices, batch, workers, depth] => {
             let mut plan = batches_of(indices, batch)?;
             plan.parallelism = Some(parallelism_of(workers, depth)?);
             Ok(plan)
         }
         _ => {
             ensure!(
-                words.len() <= 1,
-                "usage: bench_tree [INDICES BATCH [WORKERS DEPTH]]"
+                numbers.is_empty(),
+                "usage: measures tree [INDICES BATCH [WORKERS DEPTH]]"
             );
             Ok(Plan {
                 indices: 1000,

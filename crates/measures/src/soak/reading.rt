@@ -1,7 +1,7 @@
 //! Readers, and the results of their lookups.
 
-use crate::names::name_of;
-use crate::provider::{NONCE, Names, source};
+use crate::soak::names::name_of;
+use crate::soak::provider::{NONCE, Names, source};
 use coniks_directory::IndexSource;
 use coniks_proof::{Answer, Sha256Hash, check};
 

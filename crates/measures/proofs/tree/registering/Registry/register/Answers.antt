@@ -1,7 +1,7 @@
 use Rattle.std.proofs.Common.{sym, subst, ◌++◌}
 use Rattle.coniks_tree.specs.Parts.{AllPlaced}
 use Rattle.coniks_tree.proofs.Lemmas.{Extends-append}
-use Rattle.bench_tree.proofs.registering.Registry.register.Goals as goal
+use Rattle.measures.proofs.tree.registering.Registry.register.Goals as goal
 
 pub add-requires-clause-placed : goal.add-requires-clause-placed
 add-requires-clause-placed c =
