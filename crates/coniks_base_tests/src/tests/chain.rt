@@ -1,12 +1,12 @@
 //! Chains under a hash that maps every message to 32 zero bytes: audits, monitors, evidence, collisions and signers.
 
 use crate::tests::{after, copied, is_joined};
+use crate::{NONCE, OPENING, Only, POLICY, Stamp, Yes};
 use coniks_chain::{
     AuditFault, Body, Entry, Evidence, EvidenceKind, Monitor, MonitorFault, Seen, Sign, Signature,
     Signer, Tally, Verify, audit, extract_history, find_evidence,
 };
 use coniks_proof::{CheckFault, Collision, Digest, Digests, End, Flat, Head, Index, Proof};
-use coniks_test_support::{NONCE, OPENING, Only, POLICY, Stamp, Yes};
 use std::alloc::Global;
 use std::process::Abort;
 

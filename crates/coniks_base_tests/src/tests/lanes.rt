@@ -1,7 +1,7 @@
 //! Published examples, and digests that Python's `hashlib` computed.
 
+use crate::bytes_of;
 use coniks_lanes::{TwoBlocks, hash_eight, hash_four};
-use coniks_test_support::bytes_of;
 use std::process::Abort;
 
 /// The digests of FIPS 180-4's example of two blocks, of NIST's of 56, 57 and 64 zero bytes, and of counted bytes.

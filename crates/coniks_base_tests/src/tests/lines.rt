@@ -7,10 +7,10 @@ mod streams;
 
 use crate::tests::lines::machine::Echo;
 use crate::tests::lines::streams::{BrokenIn, BrokenOut, KINDS, Traced};
+use crate::{FailIn, FailOut, NEVER, Stop};
 use coniks_lines::{
     ByteIn, ByteOut, LineFault, MemoryIn, MemoryOut, SystemIn, SystemOut, run_lines,
 };
-use coniks_test_support::{FailIn, FailOut, NEVER, Stop};
 use std::alloc::Global;
 use std::io::ErrorKind;
 use std::process::Abort;

@@ -1,10 +1,10 @@
 //! Hashes, collisions under a hash that maps every message to 32 zero bytes, and proofs in bytes.
 
 use crate::tests::{after, copied, is_joined};
+use crate::{NONCE, OPENING, digest, index_of};
 use coniks_proof::{
     Collision, Digest, Digests, End, Flat, Hash32, MAX_KEY, MAX_NAME, Proof, Sha256Hash, extract,
 };
-use coniks_test_support::{NONCE, OPENING, digest, index_of};
 use std::alloc::Global;
 use std::process::Abort;
 

@@ -1,7 +1,7 @@
 //! Trees of epochs: pages of the entries, allocations that fail, and the size of a node.
 
+use crate::{Epochs, index_of};
 use coniks_proof::{Flat, Index};
-use coniks_test_support::{Epochs, index_of};
 use coniks_tree::packed::PackedNode;
 use coniks_tree::{Change, RecordNo, Root};
 use std::alloc::Global;

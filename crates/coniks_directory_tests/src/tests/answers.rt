@@ -1,9 +1,9 @@
 //! Results of lookups, as a client checks them.
 
 use crate::tests::clerk::Letters;
+use coniks_base_tests::NONCE;
 use coniks_directory::{Directory, IndexSource, LookupFault};
 use coniks_proof::{Answer, CheckFault, Sha256Hash, check};
-use coniks_test_support::NONCE;
 
 /// The result of a lookup, after its proof is checked against the epoch's root.
 #[derive(Clone, Copy, Debug, PartialEq, Eq)]

@@ -6,6 +6,7 @@ ghost use Rattle.coniks_directory_tests.specs.Letters.{high as high_of, index_of
 ghost use Rattle.coniks_directory.specs.Updates.{Grows, IsUpdateOf};
 
 use crate::tests::runs::{commit_next, install_next, may_sign};
+use coniks_base_tests::{NEVER, NONCE, OPENING, POLICY, Stamp};
 use coniks_chain::{Entry, Signature, Signer};
 use coniks_directory::laws::updates_stay;
 use coniks_directory::{
@@ -13,7 +14,6 @@ use coniks_directory::{
 };
 use coniks_proof::{Bytes, Hash32, Index, Sha256Hash};
 use coniks_shared::{Board, MAX_HEADS, Publisher};
-use coniks_test_support::{NEVER, NONCE, OPENING, POLICY, Stamp};
 use std::alloc::{AllocError, Global};
 use std::process::Abort;
 use std::thread::Threads;

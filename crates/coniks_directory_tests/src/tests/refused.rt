@@ -15,6 +15,7 @@ mod restore;
 use crate::tests::answers::{Told, asked};
 use crate::tests::clerk::{A, B, Clerk, Letters, Written, ops_of, with_clerk};
 use crate::tests::runs::{install_supplied_next, prepare_next, prepare_owned_next, supply_next};
+use coniks_base_tests::{NEW_NONCE, NONCE, POLICY, digest};
 use coniks_chain::{Entry, Signature};
 use coniks_directory::OpKind::{Change, Register};
 use coniks_directory::{
@@ -23,7 +24,6 @@ use coniks_directory::{
 };
 use coniks_proof::{Hash32, Head, Index, Nonce, Sha256Hash};
 use coniks_shared::Publisher;
-use coniks_test_support::{NEW_NONCE, NONCE, POLICY, digest};
 use coniks_work::Parallelism;
 use std::alloc::Global;
 use std::process::Abort;

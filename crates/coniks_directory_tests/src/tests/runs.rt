@@ -16,6 +16,7 @@ ghost use Rattle.coniks_proof.specs.Batches.{Operation};
 ghost use Rattle.coniks_proof.specs.Octets.{Octets};
 
 use crate::tests::clerk::{A, B, Clerk, Letters, Written, ops_of, with_clerk};
+use coniks_base_tests::{NEW_NONCE, digest};
 use coniks_chain::{Entry, Sign};
 use coniks_directory::OpKind::{Change, Register};
 use coniks_directory::laws::{
@@ -28,7 +29,6 @@ use coniks_directory::{
 };
 use coniks_proof::{Digest, Hash32, Index, Nonce, Proof, Sha256Hash};
 use coniks_shared::{Board, Publisher};
-use coniks_test_support::{NEW_NONCE, digest};
 use coniks_work::{Open, Parallelism};
 use std::process::Abort;
 use std::thread::Threads;

@@ -4,11 +4,11 @@ ghost use Rattle.std.specs.Prelude.{◌≡◌, ◌<◌, length, All};
 
 use crate::tests::answers::{Told, asked};
 use crate::tests::clerk::{A, B, Clerk, Letters, ops_of, with_clerk};
+use coniks_base_tests::{Meeting, Watch, watch_each, watches_of};
 use coniks_chain::link;
 use coniks_directory::Directory;
 use coniks_proof::{Head, Sha256Hash};
 use coniks_shared::Board;
-use coniks_test_support::{Meeting, Watch, watch_each, watches_of};
 use std::process::Abort;
 use std::sync::atomic::{AtomicU64, Ordering};
 use std::thread;

@@ -3,10 +3,10 @@
 ghost use Rattle.std.specs.Prelude.{◌≤◌};
 ghost use Rattle.coniks_work.specs.Limits.{deepest_cut, most_workers};
 
-use coniks_proof::{Digest, Hash32, Sha256Hash};
-use coniks_test_support::{
+use coniks_base_tests::{
     Bound, Meeting, NONCE, changes_to, digest, index_below, index_of, records_of,
 };
+use coniks_proof::{Digest, Hash32, Sha256Hash};
 use coniks_tree::{Change, OutOfMemory, Tree};
 use coniks_work::{Gate, build, split};
 use std::alloc::{AllocError, Global};

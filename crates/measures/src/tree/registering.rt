@@ -2,8 +2,8 @@
 
 use crate::tree::counting::Counting;
 use crate::tree::plan::Plan;
+use coniks_base_tests::{NEW_NONCE, NONCE, add, changes_to, known, part_before, record_of};
 use coniks_proof::{Digest, Hash32, Index, Prefix, Proof, Sha256Hash};
-use coniks_test_support::{NEW_NONCE, NONCE, add, changes_to, known, part_before, record_of};
 use coniks_tree::{Change, OutOfMemory, Part, Record, Root, Tree};
 use coniks_work::{Open, Parallelism, build};
 use std::alloc::{AllocError, Global};

@@ -3,7 +3,7 @@
 use crate::tests::tool::scripts::{
     ANSWERED, AUDIT, AUDITED, CHANGED, CHECKED, ENTRIES, LOOKUP, MONITOR, SCRIPT,
 };
-use coniks_test_support::{FailIn, FailOut, NEVER, Stop};
+use coniks_base_tests::{FailIn, FailOut, NEVER, Stop};
 use coniks_tool::{MemoryIn, MemoryOut, program};
 use std::alloc::Global;
 use std::process::Abort;

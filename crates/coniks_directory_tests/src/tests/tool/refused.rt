@@ -1,7 +1,7 @@
 //! Allocations that fail in `run_script`.
 
 use crate::tests::tool::scripts::{ANSWERED, SCRIPT};
-use coniks_test_support::{FailOut, NEVER, Stop};
+use coniks_base_tests::{FailOut, NEVER, Stop};
 use coniks_tool::{MemoryIn, RunFault, run_script};
 use std::alloc::Global;
 use std::process::Abort;

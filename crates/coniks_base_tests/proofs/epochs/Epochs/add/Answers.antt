@@ -1,6 +1,6 @@
 use Rattle.std.proofs.Common.{sym}
-use Rattle.coniks_test_support.proofs.Lemmas.{part_placed}
-use Rattle.coniks_test_support.proofs.epochs.Epochs.add.Goals as goal
+use Rattle.coniks_base_tests.proofs.Lemmas.{part_placed}
+use Rattle.coniks_base_tests.proofs.epochs.Epochs.add.Goals as goal
 
 pub add-requires-clause-placed : goal.add-requires-clause-placed
 add-requires-clause-placed g c =

@@ -1,7 +1,7 @@
 use Rattle.std.proofs.Common.{sym, subst}
 use Rattle.coniks_tree.specs.Parts.{AllPlaced}
 use Rattle.coniks_tree.proofs.Lemmas.{AllPlaced-drop, AllPlaced-take}
-use Rattle.coniks_test_support.proofs.epochs.+grown_at.Goals as goal
+use Rattle.coniks_base_tests.proofs.epochs.+grown_at.Goals as goal
 
 pub returns-clause-placed : goal.returns-clause-placed
 returns-clause-placed g t c = λ all more each.

@@ -1,7 +1,7 @@
 use Rattle.std.proofs.Common.{◌≡◌, length}
 use Rattle.std.specs.Prelude.{All}
-use Rattle.coniks_test_support.specs.declared.watches.Watch.{Watch}
-use Rattle.coniks_test_support.proofs.watches.watches_of.Given as goal
+use Rattle.coniks_base_tests.specs.declared.watches.Watch.{Watch}
+use Rattle.coniks_base_tests.proofs.watches.watches_of.Given as goal
 
 abbrev pub invariant-loop : goal.invariant-loop
 invariant-loop l = record {

@@ -2,7 +2,7 @@ use Rattle.std.proofs.Common.{rules, refl, sym, subst, ◌≡◌, ◌++◌, ◌+
 use Rattle.std.proofs.lemmas.Option.{slice_get_read}
 use Rattle.coniks_tree.specs.Parts.{AllPlaced}
 use Rattle.coniks_tree.proofs.Lemmas.{AllPlaced-next}
-use Rattle.coniks_test_support.proofs.records.changes_to.Goals as goal
+use Rattle.coniks_base_tests.proofs.records.changes_to.Goals as goal
 
 pub loop-position-preserved : goal.loop-position-preserved
 loop-position-preserved c = λ old sized.
