@@ -23,10 +23,10 @@ use Rattle.coniks_chain.specs.declared.entry.Entry.{Entry}
 use Rattle.coniks_directory.specs.History.{Shown, latest_registry}
 use Rattle.coniks_directory.specs.Supplied.{Supplied, is_supplied}
 use Rattle.coniks_directory.specs.SuppliedBatches.{Indexed, indices_by, operations_of, put_index, put_indices}
-use Rattle.coniks_json.specs.EntryLines.{entry_in}
-use Rattle.coniks_json.specs.Members.{array_in, digits_in, if_there, number_in, object_in, text_in}
-use Rattle.coniks_json.specs.Turns.{refused}
-use Rattle.coniks_json.specs.Refusals.{not_json}
+use Rattle.coniks_programs.specs.EntryLines.{entry_in}
+use Rattle.coniks_programs.specs.Members.{array_in, digits_in, if_there, number_in, object_in, text_in}
+use Rattle.coniks_programs.specs.Turns.{refused}
+use Rattle.coniks_programs.specs.Refusals.{not_json}
 use Rattle.coniks_provider.specs.Answers.{ProviderOutcome, because}
 use Rattle.coniks_provider.specs.Claims.{Claim, agrees, claim_in, log_in}
 use Rattle.coniks_provider.specs.Lines.{batch_in}

@@ -11,9 +11,9 @@ use Rattle.coniks_chain.specs.declared.entry.Body.{Body}
 use Rattle.coniks_chain.specs.declared.entry.Entry.{Entry}
 use Rattle.coniks_proof.proofs.Lemmas.{eq_apart, eq_same}
 use Rattle.coniks_directory.specs.SuppliedBatches.{Indexed}
-use Rattle.coniks_json.specs.EntryLines.{entry_in}
-use Rattle.coniks_json.specs.Turns.{refused}
-use Rattle.coniks_json.specs.Members.{object_in, text_in, number_in, array_in, digits_in, if_there}
+use Rattle.coniks_programs.specs.EntryLines.{entry_in}
+use Rattle.coniks_programs.specs.Turns.{refused}
+use Rattle.coniks_programs.specs.Members.{object_in, text_in, number_in, array_in, digits_in, if_there}
 use Rattle.coniks_provider.specs.Answers.{ProviderOutcome, installed, is_accepted_line, not_abandoned, prepared, replay_differs}
 use Rattle.coniks_provider.specs.Claims.{Claim, agrees, claim_in, log_in}
 use Rattle.coniks_provider.specs.Lines.{batch_in}

@@ -8,12 +8,12 @@ use Rattle.std.proofs.lemmas.Slice.Eq.{bytes_eq-Decides}
 use Rattle.serde_json.specs.Data.{Data, Items}
 use Rattle.coniks_chain.specs.declared.entry.Entry.{Entry}
 use Rattle.coniks_directory.specs.SuppliedBatches.{Indexed}
-use Rattle.coniks_json.specs.EntryLines.{entry_in}
-use Rattle.coniks_json.specs.Members.{object_in, text_in, number_in, array_in, digits_in, if_there}
-use Rattle.coniks_json.specs.Turns.{refused}
+use Rattle.coniks_programs.specs.EntryLines.{entry_in}
+use Rattle.coniks_programs.specs.Members.{object_in, text_in, number_in, array_in, digits_in, if_there}
+use Rattle.coniks_programs.specs.Turns.{refused}
 use Rattle.coniks_chain.specs.Entries.{link_preimage}
 use Rattle.coniks_proof.specs.Sha256.{sha256}
-use Rattle.coniks_json.specs.Refusals.{not_json}
+use Rattle.coniks_programs.specs.Refusals.{not_json}
 use Rattle.coniks_provider.specs.Answers.{ProviderOutcome, because, is_accepted_line, restored, root_differs}
 use Rattle.coniks_provider.specs.Claims.{Claim, agrees, claim_in, log_in}
 use Rattle.coniks_provider.specs.Laws.{IsLeftBy}

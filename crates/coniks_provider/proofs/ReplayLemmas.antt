@@ -4,8 +4,8 @@ use Rattle.std.specs.Prelude.{◌==◌, ◌&&◌, ◌⊎◌, nat_le, option_and_
 use Rattle.std.proofs.lemmas.Bool.Decides.{nat_tests}
 use Rattle.coniks_lines.specs.Known.{Appends, Takes as Reads, next_count}
 use Rattle.coniks_lines.specs.Runs.{ComesToEnd, Streams}
-use Rattle.coniks_json.specs.Members.{array_in, object_in}
-use Rattle.coniks_json.specs.Turns.{Takes}
+use Rattle.coniks_programs.specs.Members.{array_in, object_in}
+use Rattle.coniks_programs.specs.Turns.{Takes}
 use Rattle.coniks_provider.specs.Turns.{ProviderState}
 use Rattle.coniks_provider.specs.declared.replay.Place.{Place as Stage}
 use Rattle.coniks_provider.specs.declared.replay.Step.{Step as Done}

@@ -15,7 +15,7 @@ use Rattle.coniks_directory.specs.declared.batch.BatchFault.{BatchFault}
 use Rattle.coniks_directory.specs.declared.batch.BatchFault.TheVariants as batch
 use Rattle.coniks_directory.specs.declared.batch.Op.{Op}
 use Rattle.coniks_directory.specs.declared.batch.OpFault.{OpFault}
-use Rattle.coniks_json.specs.Refusals.{Refusal, bad_batch, batch_too_long, refused_as}
+use Rattle.coniks_programs.specs.Refusals.{Refusal, bad_batch, batch_too_long, refused_as}
 use Rattle.coniks_provider.specs.Answers.{ProviderOutcome, because, bindings_added}
 use Rattle.coniks_provider.specs.Stores.{restore_by}
 use Rattle.coniks_provider.specs.Turns.{Restore, bound_in, restore_and, restoring, restoring_index, restoring_on, restoring_refusal}

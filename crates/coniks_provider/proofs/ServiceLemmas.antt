@@ -28,10 +28,10 @@ use Rattle.coniks_directory.specs.declared.batch.Op.{Op}
 use Rattle.coniks_directory.specs.declared.supplied_batch.SuppliedBatchFault.{SuppliedBatchFault}
 use Rattle.coniks_directory.specs.declared.supplied_batch.SuppliedBatchFault.TheVariants.{Batch as OfBatch, OtherIndex}
 use Rattle.coniks_directory.specs.declared.update.Prepared.{Prepared}
-use Rattle.coniks_json.specs.Refusals.{bad_name_length, epoch_not_later, unknown_epoch}
-use Rattle.coniks_json.specs.Paths.{path_of, path_to}
-use Rattle.coniks_json.proofs.Lemmas.{path_is}
-use Rattle.coniks_json.specs.Turns.{refused}
+use Rattle.coniks_programs.specs.Refusals.{bad_name_length, epoch_not_later, unknown_epoch}
+use Rattle.coniks_programs.specs.Paths.{path_of, path_to}
+use Rattle.coniks_programs.proofs.Lemmas.{path_is}
+use Rattle.coniks_programs.specs.Turns.{refused}
 use Rattle.coniks_chain.specs.Entries.{body_bytes}
 use Rattle.coniks_provider.specs.Answers.{ProviderOutcome, bad_index, because, installed, looked_up, not_abandoned, prepared, replay_differs}
 use Rattle.coniks_provider.specs.Claims.{Claim, agrees}

@@ -13,10 +13,10 @@ use Rattle.coniks_chain.specs.declared.entry.Body.{Body}
 use Rattle.coniks_chain.specs.declared.entry.Entry.{Entry}
 use Rattle.coniks_directory.specs.Bindings.{Indexed as IndexedBinding}
 use Rattle.coniks_directory.specs.SuppliedBatches.{SuppliedFault, of_operation, other_index}
-use Rattle.coniks_json.specs.Paths.{Path, path_of}
-use Rattle.coniks_json.specs.ProofTexts.{digits}
-use Rattle.coniks_json.specs.Refusals.{Refusal, bad_batch, refusal_data, refusal_of}
-use Rattle.coniks_json.specs.Replies.{fault_data, looked_up_data, opened_data, placed_fault_data}
+use Rattle.coniks_programs.specs.Paths.{Path, path_of}
+use Rattle.coniks_programs.specs.ProofTexts.{digits}
+use Rattle.coniks_programs.specs.Refusals.{Refusal, bad_batch, refusal_data, refusal_of}
+use Rattle.coniks_programs.specs.Replies.{fault_data, looked_up_data, opened_data, placed_fault_data}
 use Rattle.coniks_provider.specs.declared.reply.Reply.{Reply}
 use Rattle.coniks_provider.specs.declared.reply.Reply.TheVariants as reply
 

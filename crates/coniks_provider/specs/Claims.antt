@@ -4,7 +4,7 @@ use Rattle.std.specs.Str.{bytes_eq}
 use Rattle.serde_json.specs.Data.{Data}
 use Rattle.serde_json.specs.Find.{get}
 use Rattle.coniks_proof.specs.Octets.{Octets}
-use Rattle.coniks_json.specs.Members.{digits_in, given, if_there, number_in}
+use Rattle.coniks_programs.specs.Members.{digits_in, given, if_there, number_in}
 
 -- bytes that a line may name: they are missing, there is something else in their place, or they are these
 abbrev pub Claim : Type 0

@@ -1,8 +1,10 @@
 pub mod Answers
 pub mod Claims
+pub mod Command
 pub mod Lines
 pub mod Laws
 pub mod Logs
+pub mod Program
 pub mod Replays
 pub mod Stored
 pub mod Stores

@@ -3,8 +3,8 @@ use Rattle.std.specs.Prelude.{ℕ, ◌+◌, List, [], ◌∷◌, codes, Option, 
 use Rattle.serde_json.specs.Data.{Data, Items, no_items, item}
 use Rattle.coniks_directory.specs.SuppliedBatches.{Indexed, indexed}
 use Rattle.coniks_proof.specs.Batches.{Operation, register}
-use Rattle.coniks_json.specs.Members.{digits_in, given}
-use Rattle.coniks_json.specs.Operations.{operation_in, operation_of_kind}
+use Rattle.coniks_programs.specs.Members.{digits_in, given}
+use Rattle.coniks_programs.specs.Operations.{operation_in, operation_of_kind}
 use Rattle.coniks_provider.specs.declared.batch.Operations.{Operations}
 use Rattle.coniks_provider.specs.declared.operations.Elements.{Elements}
 use Rattle.coniks_provider.specs.declared.operations.Elements.TheVariants as elements

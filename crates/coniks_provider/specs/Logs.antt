@@ -4,7 +4,7 @@ use Rattle.serde_json.specs.Data.{Data}
 use Rattle.serde_json.specs.Find.{get}
 use Rattle.coniks_proof.specs.Octets.{Octets}
 use Rattle.coniks_chain.specs.Entries.{body_bytes}
-use Rattle.coniks_json.specs.Members.{object_in, text_in}
+use Rattle.coniks_programs.specs.Members.{object_in, text_in}
 use Rattle.coniks_provider.specs.Answers.{ProviderOutcome, installed, is_accepted_line, prepared}
 use Rattle.coniks_provider.specs.Claims.{claim_in}
 use Rattle.coniks_provider.specs.Replays.{Replay, command_turn, is_replayed, kind_in, logging}

@@ -15,13 +15,13 @@ use Rattle.coniks_proof.specs.Preimages.{zeros}
 use Rattle.coniks_proof.specs.Sha256.{sha256}
 use Rattle.coniks_chain.specs.Entries.{entry_bytes, entry_from, link_preimage}
 use Rattle.coniks_chain.specs.declared.entry.Entry.{Entry}
-use Rattle.coniks_json.specs.EntryLines.{entry_in}
-use Rattle.coniks_json.specs.Members.{array_in, digits_in, number_in, object_in, text_in}
-use Rattle.coniks_json.specs.ProofTexts.{digits}
-use Rattle.coniks_json.specs.Replies.{bad_member_data, fault_data}
-use Rattle.coniks_json.specs.Turns.{Turn, refused}
-use Rattle.coniks_json.specs.declared.fault.RunFault.{RunFault}
-use Rattle.coniks_json.specs.declared.fault.RunFault.TheVariants.{Read, Write, OutOfMemory, NoBoard}
+use Rattle.coniks_programs.specs.EntryLines.{entry_in}
+use Rattle.coniks_programs.specs.Members.{array_in, digits_in, number_in, object_in, text_in}
+use Rattle.coniks_programs.specs.ProofTexts.{digits}
+use Rattle.coniks_programs.specs.Replies.{bad_member_data, fault_data}
+use Rattle.coniks_programs.specs.Turns.{Turn, refused}
+use Rattle.coniks_programs.specs.declared.fault.RunFault.{RunFault}
+use Rattle.coniks_programs.specs.declared.fault.RunFault.TheVariants.{Read, Write, OutOfMemory, NoBoard}
 use Rattle.coniks_provider.specs.Answers.{ProviderOutcome, at_latest, is_accepted_line, provider_outcome_of, provider_reply_text, restored}
 use Rattle.coniks_provider.specs.Claims.{Claim, claim_in, log_in}
 use Rattle.coniks_provider.specs.Stored.{with_last}

@@ -5,7 +5,7 @@ use Rattle.serde_json.specs.Find.{get}
 use Rattle.serde_json.specs.Written.{compact_text}
 use Rattle.coniks_proof.specs.Octets.{Octets}
 use Rattle.coniks_chain.specs.Entries.{body_bytes}
-use Rattle.coniks_json.specs.ProofTexts.{digits}
+use Rattle.coniks_programs.specs.ProofTexts.{digits}
 use Rattle.coniks_provider.specs.Answers.{ProviderOutcome, installed, prepared}
 
 -- a text without its last byte

@@ -9,7 +9,7 @@ use Rattle.coniks_directory.specs.Restored.{RestoringView}
 use Rattle.coniks_directory.specs.State.{View, history_of}
 use Rattle.coniks_directory.specs.Supplied.{Supplied, supplied_index}
 use Rattle.coniks_directory.specs.SuppliedBatches.{IsSuppliedUpdate, indices_of, indexed}
-use Rattle.coniks_json.specs.Refusals.{IsRefusable, bad_name_length, refused_as, unknown_epoch}
+use Rattle.coniks_programs.specs.Refusals.{IsRefusable, bad_name_length, refused_as, unknown_epoch}
 use Rattle.coniks_directory.specs.declared.bindings.BindingsFault.{BindingsFault}
 use Rattle.coniks_directory.specs.declared.bindings.BindingsFault.TheVariants as page
 use Rattle.coniks_directory.specs.declared.lookup.LookupAtFault.{LookupAtFault}
@@ -19,7 +19,7 @@ use Rattle.coniks_directory.specs.declared.restoring.RestoreFault.TheVariants.{N
 use Rattle.coniks_directory.specs.declared.supplied_batch.SuppliedBatchFault.{SuppliedBatchFault}
 use Rattle.coniks_directory.specs.declared.supplied_batch.SuppliedBatchFault.TheVariants.{Batch as OfBatch, OtherIndex}
 use Rattle.coniks_directory.specs.Updates.{base_of, nodes_added, shown_after}
-use Rattle.coniks_json.specs.Turns.{refused}
+use Rattle.coniks_programs.specs.Turns.{refused}
 use Rattle.coniks_provider.specs.Answers.{ProviderOutcome, bad_index, bad_version, because, malformed, not_later, other_index_at, provider_outcome_of, restore_begun, root_differs}
 use Rattle.coniks_provider.specs.Turns.{BatchLine, ProviderDirectory, Pending, ProviderState, ProviderTurn, Restore, nothing, restoring, serving}
 use Rattle.coniks_provider.specs.declared.batch.ReadBatch.{ReadBatch}

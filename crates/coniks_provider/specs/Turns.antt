@@ -25,12 +25,12 @@ use Rattle.coniks_directory.specs.Restored.{restored_epoch, said_before}
 use Rattle.coniks_directory.specs.Runs.{shown_by}
 use Rattle.coniks_directory.specs.Supplied.{Supplied, supplied_index}
 use Rattle.coniks_directory.specs.SuppliedBatches.{Indexed, SuppliedFault, index_in, indices_by, operations_of, put_indices, supplied_fault}
-use Rattle.coniks_json.specs.EntryLines.{entry_in}
-use Rattle.coniks_json.specs.Members.{array_in, digits_in, given, if_there, number_in, object_in, text_in}
-use Rattle.coniks_json.specs.Paths.{path_to}
-use Rattle.coniks_json.specs.Turns.{Turn, refused}
-use Rattle.coniks_json.specs.declared.printing.Member.TheVariants.{Nonce, Policy, Epoch, Ops, Name, Index as IndexMember, Signature, Entry as EntryMember, After, Most, Bindings as BindingsMember}
-use Rattle.coniks_json.specs.Refusals.{already_open, bad_batch, bad_member, bad_name_length, bad_operation, batch_too_long, epoch_not_later, no_command, not_json, not_open, unknown_epoch}
+use Rattle.coniks_programs.specs.EntryLines.{entry_in}
+use Rattle.coniks_programs.specs.Members.{array_in, digits_in, given, if_there, number_in, object_in, text_in}
+use Rattle.coniks_programs.specs.Paths.{path_to}
+use Rattle.coniks_programs.specs.Turns.{Turn, refused}
+use Rattle.coniks_programs.specs.declared.printing.Member.TheVariants.{Nonce, Policy, Epoch, Ops, Name, Index as IndexMember, Signature, Entry as EntryMember, After, Most, Bindings as BindingsMember}
+use Rattle.coniks_programs.specs.Refusals.{already_open, bad_batch, bad_member, bad_name_length, bad_operation, batch_too_long, epoch_not_later, no_command, not_json, not_open, unknown_epoch}
 use Rattle.coniks_provider.specs.Answers.{ProviderOutcome, at_latest, bad_binding, bad_index, bad_log, bad_supplied, bad_version, because, bindings_added, installed, is_accepted_line, listed, looked_up, malformed, not_later}
 use Rattle.coniks_provider.specs.Answers.{not_abandoned, not_prepared, not_restoring, opened, page_data, prepared, provider_reply_text, replay_differs, restore_begun, restored, root_differs, withdrawn}
 use Rattle.coniks_provider.specs.Claims.{Claim, agrees, claim_in, is_named, log_in}

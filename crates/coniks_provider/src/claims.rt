@@ -4,7 +4,7 @@ ghost use Rattle.std.specs.Prelude.{◌≡◌};
 ghost use Rattle.serde_json.specs.View.{view};
 ghost use Rattle.coniks_provider.specs.Claims.{agrees, claim_in, is_named, log_in};
 
-use coniks_json::members::{bytes_of_digits, number, text};
+use coniks_programs::members::{bytes_of_digits, number, text};
 use serde_json::Value;
 
 /// The format of a log whose rules hold.

@@ -1,4 +1,5 @@
-//! The engine of `provider`: a directory whose indices and signatures come from outside, driven by lines.
+//! The lines, the engine and the command line of the program `provider`: a directory whose indices and signatures come
+//! from outside.
 //!
 //! A service computes the index of each name with its own verifiable random function (VRF, RFC 9381). It signs each
 //! epoch's body with its own key. A directory is opened, or restored from its latest entry and the bindings at that
@@ -15,6 +16,7 @@
 
 mod batch;
 mod claims;
+mod cli;
 mod discard;
 mod held;
 pub mod laws;
@@ -28,5 +30,8 @@ mod service;
 mod store;
 mod stored;
 
+pub use cli::statuses::{program, unread_words};
+pub use coniks_lines::{SystemIn, SystemOut};
+pub use coniks_programs::cli::words;
 pub use machine::run_provider;
 pub use replay::run_replay;

@@ -2,12 +2,12 @@
 
 ghost use Rattle.std.specs.Prelude.{◌≡◌, ◌<◌, ◌≤◌, ◌+◌, ◌++◌, ◌^◌, IfOk, IfSome, None, OnOk, codes, if◌then◌else◌, option_map};
 ghost use Rattle.coniks_proof.specs.declared.values.TheConstants.{MAX_OPERATIONS};
-ghost use Rattle.coniks_json.specs.EntryLines.{entry_in};
+ghost use Rattle.coniks_programs.specs.EntryLines.{entry_in};
 ghost use Rattle.serde_json.specs.View.{view};
 ghost use Rattle.coniks_lines.specs.Runs.{IsRunOf, streams};
-ghost use Rattle.coniks_json.specs.Faults.{FailsOn};
-ghost use Rattle.coniks_json.specs.Members.{array_in, digits_in, if_there, number_in, text_in};
-ghost use Rattle.coniks_json.specs.Turns.{Takes};
+ghost use Rattle.coniks_programs.specs.Faults.{FailsOn};
+ghost use Rattle.coniks_programs.specs.Members.{array_in, digits_in, if_there, number_in, text_in};
+ghost use Rattle.coniks_programs.specs.Turns.{Takes};
 ghost use Rattle.coniks_provider.specs.Answers.{provider_outcome_of};
 ghost use Rattle.coniks_provider.specs.Claims.{claim_in, log_in};
 ghost use Rattle.coniks_provider.specs.Stored.{stored_line};
@@ -20,14 +20,14 @@ use crate::reply::Reply;
 use crate::store::Store;
 use crate::stored::{Stored, put_store, stored_line};
 use coniks_directory::OwnedBatch;
-use coniks_json::entries::read_entry;
-use coniks_json::fault::{RunFault, of_run};
-use coniks_json::members::{
+use coniks_lines::{ByteIn, ByteOut, LineMachine, run_lines};
+use coniks_programs::entries::read_entry;
+use coniks_programs::fault::{RunFault, of_run};
+use coniks_programs::members::{
     array, bytes_of_digits, digits32, digits32_if_there, nonce_of, number, read_object, text,
 };
-use coniks_json::printing::Member;
-use coniks_json::refusal::Refusal;
-use coniks_lines::{ByteIn, ByteOut, LineMachine, run_lines};
+use coniks_programs::printing::Member;
+use coniks_programs::refusal::Refusal;
 use coniks_proof::MAX_OPERATIONS;
 use coniks_work::Parallelism;
 use serde_json::Value;

@@ -7,8 +7,8 @@ ghost use Rattle.coniks_provider.specs.Lines.{batch_in, batch_line_read, element
 
 use crate::batch::Operations;
 use coniks_directory::{Op, OpKind};
-use coniks_json::members::digits32;
-use coniks_json::operations::{read_op, read_op_of};
+use coniks_programs::members::digits32;
+use coniks_programs::operations::{read_op, read_op_of};
 use coniks_proof::Index;
 use serde_json::Value;
 use std::alloc::{AllocError, Global};

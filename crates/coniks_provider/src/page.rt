@@ -5,12 +5,12 @@ ghost use Rattle.serde_json.specs.Data.{array};
 ghost use Rattle.serde_json.specs.View.{items_of};
 ghost use Rattle.serde_json.specs.Written.{compact_text};
 ghost use Rattle.coniks_directory.specs.Bindings.{indexed_binding};
-ghost use Rattle.coniks_json.specs.Printing.{Writes};
+ghost use Rattle.coniks_programs.specs.Printing.{Writes};
 ghost use Rattle.coniks_provider.specs.Answers.{binding_data, page_data};
 
 use coniks_directory::IndexedBinding;
-use coniks_json::objects::{Field, Shown, write_object};
-use coniks_json::printable::Printable;
+use coniks_programs::objects::{Field, Shown, write_object};
+use coniks_programs::printable::Printable;
 use json::Writer;
 use std::alloc::{AllocError, Global};
 

@@ -7,11 +7,11 @@ ghost use Rattle.coniks_provider.specs.Answers.{bad_binding_data, bad_log_data, 
 
 use coniks_chain::{Body, Entry};
 use coniks_directory::SignedProof;
-use coniks_json::objects::{Field, Shown, object};
-use coniks_json::printable::Printable;
-use coniks_json::printing::fault;
-use coniks_json::refusal::Refusal;
-use coniks_json::replies::{looked_up, opened, placed_fault};
+use coniks_programs::objects::{Field, Shown, object};
+use coniks_programs::printable::Printable;
+use coniks_programs::printing::fault;
+use coniks_programs::refusal::Refusal;
+use coniks_programs::replies::{looked_up, opened, placed_fault};
 use coniks_proof::Digest;
 use std::alloc::{AllocError, Global};
 

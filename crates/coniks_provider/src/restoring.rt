@@ -12,7 +12,7 @@ use crate::reply::Reply;
 use crate::service::Service;
 use coniks_chain::Entry;
 use coniks_directory::{OwnedBindings, RestoreFault, Restoring, SuppliedIndices};
-use coniks_json::refusal::{Refusal, batch_refusal};
+use coniks_programs::refusal::{Refusal, batch_refusal};
 use coniks_proof::{MAX_OPERATIONS, Sha256Hash};
 use coniks_work::{Open, Parallelism};
 use std::alloc::{AllocError, Global};

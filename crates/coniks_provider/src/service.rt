@@ -3,7 +3,7 @@
 ghost use Rattle.std.specs.Prelude.{◌≡◌, ◌≤◌, [], length, None, Some, IfOk, OnErr, OnOk, option_map};
 ghost use Rattle.coniks_proof.specs.declared.values.TheConstants.{MAX_OPERATIONS};
 ghost use Rattle.coniks_directory.specs.declared.batch.BatchFault.TheVariants.{OutOfMemory};
-ghost use Rattle.coniks_json.specs.Turns.{Takes};
+ghost use Rattle.coniks_programs.specs.Turns.{Takes};
 ghost use Rattle.coniks_provider.specs.Answers.{provider_outcome_of};
 ghost use Rattle.coniks_provider.specs.Stores.{IsServing, IsSuppliedRefusable, batch_line_of, lookup_refused_as, page_refused_as, provided_of, supplied_refused_as};
 ghost use Rattle.coniks_provider.specs.Turns.{bindings_with, index_of_bytes, install_on, latest_outcome, line_refusal, may_replace, nothing_yet, pending_body, prepare_on, provider_lookup_with, provider_number_refusal, serving, withdraw_on};
@@ -17,7 +17,7 @@ use coniks_directory::{
     BindingsFault, Directory, InstallFault, LinkedEntry, LookupAtFault, Prepared,
     SuppliedBatchFault, SuppliedIndices,
 };
-use coniks_json::refusal::{Refusal, batch_refusal};
+use coniks_programs::refusal::{Refusal, batch_refusal};
 use coniks_proof::{Index, Nonce, Sha256Hash};
 use coniks_work::{Open, Parallelism};
 use std::alloc::{AllocError, Global};

@@ -3,7 +3,7 @@
 ghost use Rattle.std.specs.Prelude.{◌≡◌, ◌≢◌, ◌≤◌, IfOk, OnOk, false, length, true};
 ghost use Rattle.coniks_directory.specs.SuppliedBatches.{indexed};
 ghost use Rattle.coniks_proof.specs.declared.values.TheConstants.{MAX_OPERATIONS};
-ghost use Rattle.coniks_json.specs.Turns.{Takes};
+ghost use Rattle.coniks_programs.specs.Turns.{Takes};
 ghost use Rattle.coniks_provider.specs.Answers.{provider_outcome_of};
 ghost use Rattle.coniks_provider.specs.Replays.{names_in, pending_in};
 ghost use Rattle.coniks_provider.specs.Stores.{batch_line_of};
@@ -15,7 +15,7 @@ use crate::reply::Reply;
 use crate::restoring::Restore;
 use crate::service::Service;
 use coniks_chain::Entry;
-use coniks_json::refusal::Refusal;
+use coniks_programs::refusal::Refusal;
 use coniks_work::Parallelism;
 use std::alloc::{AllocError, Global};
 use std::marker::Model;

@@ -6,8 +6,8 @@ ghost use Rattle.coniks_provider.specs.Answers.{provider_outcome_of};
 ghost use Rattle.coniks_provider.specs.Stored.{after_brace, naming, stored_line, with_last, with_store};
 
 use crate::reply::Reply;
-use coniks_json::objects::{Field, Shown, object};
-use coniks_json::printable::Printable;
+use coniks_programs::objects::{Field, Shown, object};
+use coniks_programs::printable::Printable;
 use serde_json::Value;
 use std::alloc::{AllocError, Global};
 

@@ -10,19 +10,19 @@ use Rattle.coniks_lines.specs.Lines.{lines_of}
 use Rattle.coniks_lines.specs.Machine.{all_accepted}
 use Rattle.coniks_lines.specs.Runs.{AnswersAll}
 use Rattle.coniks_lines.specs.declared.fault.LineFault.{LineFault}
-use Rattle.coniks_json.specs.Faults.{of_run}
+use Rattle.coniks_programs.specs.Faults.{of_run}
 use Rattle.coniks_proof.specs.Sha256.{sha256}
 use Rattle.coniks_chain.specs.declared.entry.Entry.{Entry}
 use Rattle.coniks_chain.specs.declared.auditor.AuditorState.{AuditorState}
 use Rattle.coniks_chain.specs.declared.auditor.AuditFault.{AuditFault}
 use Rattle.coniks_chain.specs.Chain.{Continues, Follows, before_at, auditor_after}
-use Rattle.coniks_json.specs.Members.{object_in}
+use Rattle.coniks_programs.specs.Members.{object_in}
 use Rattle.coniks_tool.specs.Seal.{is_seal}
-use Rattle.coniks_json.specs.EntryLines.{entry_in, entry_on}
+use Rattle.coniks_programs.specs.EntryLines.{entry_in, entry_on}
 use Rattle.coniks_tool.specs.AuditFaults.{audit_fault}
 use Rattle.coniks_tool.specs.AuditReplies.{is_audited, not_json}
 use Rattle.coniks_tool.specs.Audit.{AuditState, AuditTurn, none_audited, judged_turn, entry_turn, audit_turn, audit_answer}
-use Rattle.coniks_json.specs.Turns.{refused}
+use Rattle.coniks_programs.specs.Turns.{refused}
 use Rattle.coniks_tool.specs.AuditChain.{HoldsGoodChain, if_accepted, accepted_entries}
 use Rattle.coniks_tool.proofs.AuditFaultLemmas.{follows-none, none-follows}
 

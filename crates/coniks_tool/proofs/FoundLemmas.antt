@@ -18,12 +18,12 @@ use Rattle.coniks_proof.specs.declared.paths.Proof.{Proof}
 use Rattle.coniks_proof.specs.declared.values.TheConstants.{MAX_NAME}
 use Rattle.coniks_tool.specs.Chains.{chain_after, chain_of, entry_after}
 use Rattle.coniks_tool.specs.Demo.{demo_index}
-use Rattle.coniks_json.specs.Paths.{Path, path_of, path_to}
-use Rattle.coniks_json.specs.Refusals.{Refusal, bad_name_length, unknown_epoch}
+use Rattle.coniks_programs.specs.Paths.{Path, path_of, path_to}
+use Rattle.coniks_programs.specs.Refusals.{Refusal, bad_name_length, unknown_epoch}
 use Rattle.coniks_tool.specs.Refusals.{lookup_refused_as}
 use Rattle.coniks_tool.specs.ScriptReplies.{because, looked_up}
 use Rattle.coniks_tool.specs.Script.{Chained, ScriptDirectory, epoch_at, epochs_of, lookup_at, lookup_with}
-use Rattle.coniks_json.proofs.Lemmas.{path_is}
+use Rattle.coniks_programs.proofs.Lemmas.{path_is}
 
 -- the entry of exactly this epoch
 abbrev pub entry_at : List Entry → ℕ → Option Entry

@@ -1,7 +1,7 @@
 -- The endings of the program.
 use Rattle.std.proofs.Common.{◌≡◌, inl, ℕ, List, [], Some, subst, sym}
 use Rattle.clap.specs.Words.{fault_of, subcommand_of}
-use Rattle.coniks_cli.specs.Endings.{Outcome}
+use Rattle.coniks_programs.specs.Endings.{Outcome}
 use Rattle.coniks_lines.specs.Runs.{Streams}
 use Rattle.coniks_tool.specs.Choice.{Choice, chosen}
 use Rattle.coniks_tool.specs.Keydir.{keydir}

@@ -21,21 +21,21 @@ use Rattle.coniks_tool.specs.AuditReplies.{is_audited}
 use Rattle.coniks_tool.specs.AuditReplies as audit
 use Rattle.coniks_tool.specs.CheckFaults.{check_fault}
 use Rattle.coniks_tool.specs.Demo.{demo_index}
-use Rattle.coniks_json.specs.EntryLines.{entry_in}
+use Rattle.coniks_programs.specs.EntryLines.{entry_in}
 use Rattle.coniks_tool.specs.Expectations.{expected_in}
-use Rattle.coniks_json.specs.Members.{object_in, text_in, number_in, array_in, digits_in, if_there}
+use Rattle.coniks_programs.specs.Members.{object_in, text_in, number_in, array_in, digits_in, if_there}
 use Rattle.coniks_tool.specs.Monitor.{MonitorState, MonitorTurn, audited_turn, checked_turn, expect_turn, is_expect, monitor_turn, object_turn, watch_turn}
 use Rattle.coniks_tool.specs.MonitorReplies.{expecting, watched}
 use Rattle.coniks_tool.specs.MonitorReplies as monitor
-use Rattle.coniks_json.specs.Operations.{operations_in}
-use Rattle.coniks_json.specs.ProofObjects.{proof_in}
+use Rattle.coniks_programs.specs.Operations.{operations_in}
+use Rattle.coniks_programs.specs.ProofObjects.{proof_in}
 use Rattle.coniks_tool.specs.Refusals.{refusal}
-use Rattle.coniks_json.specs.Refusals.{Refusal, not_json}
+use Rattle.coniks_programs.specs.Refusals.{Refusal, not_json}
 use Rattle.coniks_tool.specs.ScriptReplies.{because, is_accepted}
 use Rattle.coniks_directory.specs.Runs.{Batch}
 use Rattle.coniks_tool.specs.Script.{ScriptDirectory, ScriptState, ScriptTurn, batch_on, batch_read, batch_turn, batch_with, command_turn, open_turn, open_with, turn}
 use Rattle.coniks_tool.specs.Seal.{is_seal}
-use Rattle.coniks_json.specs.Turns.{refused}
+use Rattle.coniks_programs.specs.Turns.{refused}
 
 -- what holds of both branches holds of the choice
 either : {T : Type 0} → (P : T → Type 0) (b : Bool) (t u : T) → P t → P u → P (if b then t else u)

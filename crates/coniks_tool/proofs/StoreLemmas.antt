@@ -26,11 +26,11 @@ use Rattle.coniks_directory.specs.declared.update.CommitFault.TheVariants.{Batch
 use Rattle.coniks_directory.specs.declared.update.InstallFault.TheVariants as install
 use Rattle.coniks_work.specs.declared.jobs.TheConstants.{MAX_DEPTH}
 use Rattle.coniks_tool.specs.Demo.{demo_index}
-use Rattle.coniks_json.specs.Refusals.{Refusal, epoch_not_later}
+use Rattle.coniks_programs.specs.Refusals.{Refusal, epoch_not_later}
 use Rattle.coniks_tool.specs.Refusals.{IsRefusedBy, refusal}
 use Rattle.coniks_tool.specs.ScriptReplies.{because, installed}
 use Rattle.coniks_tool.specs.Script.{Installs, ScriptDirectory, ScriptState as Held, ScriptTurn, batch_on, batch_with, shown_next as shown_epoch}
-use Rattle.coniks_json.specs.Turns.{refused}
+use Rattle.coniks_programs.specs.Turns.{refused}
 use Rattle.coniks_tool.specs.Seal.{is_seal}
 use Rattle.coniks_tool.specs.Stores.{opened_by, opened_of, shown_on, script_state_of}
 use Rattle.coniks_tool.specs.declared.run.store.Service.{Service}

@@ -9,12 +9,12 @@ use Rattle.coniks_chain.specs.declared.auditor.AuditorState.{AuditorState}
 use Rattle.coniks_chain.specs.declared.auditor.AuditFault.{AuditFault}
 use Rattle.coniks_chain.specs.Chain.{auditor_after}
 use Rattle.coniks_chain.specs.Entries.{link_preimage}
-use Rattle.coniks_json.specs.Members.{object_in}
+use Rattle.coniks_programs.specs.Members.{object_in}
 use Rattle.coniks_tool.specs.Seal.{is_seal}
-use Rattle.coniks_json.specs.EntryLines.{entry_in}
+use Rattle.coniks_programs.specs.EntryLines.{entry_in}
 use Rattle.coniks_tool.specs.AuditFaults.{audit_fault}
 use Rattle.coniks_tool.specs.AuditReplies.{AuditOutcome, audited, not_json, no_entry, at_fault, audit_data, is_audited}
-use Rattle.coniks_json.specs.Turns.{Turn, refused, answer_by}
+use Rattle.coniks_programs.specs.Turns.{Turn, refused, answer_by}
 
 -- the key of the seal, and what the next entry is compared with
 pub record AuditState : Type 0 where

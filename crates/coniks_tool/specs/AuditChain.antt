@@ -5,7 +5,7 @@ use Rattle.coniks_proof.specs.Sha256.{sha256}
 use Rattle.coniks_chain.specs.declared.entry.Entry.{Entry}
 use Rattle.coniks_chain.specs.Chain.{GoodChain}
 use Rattle.coniks_tool.specs.Seal.{is_seal}
-use Rattle.coniks_json.specs.EntryLines.{entry_on}
+use Rattle.coniks_programs.specs.EntryLines.{entry_on}
 use Rattle.coniks_tool.specs.Audit.{AuditState, audit_answer}
 
 -- each line holds an entry, and the entries are a good chain under the seal of the key

@@ -4,8 +4,8 @@ use Rattle.coniks_proof.specs.Octets.{Octets}
 use Rattle.serde_json.specs.Data.{Data, string, number, unsigned, object, member, no_members}
 use Rattle.coniks_chain.specs.declared.auditor.AuditFault.{AuditFault}
 use Rattle.coniks_chain.specs.declared.auditor.AuditFault.TheVariants.{Version, VersionBack, FirstEpoch, NotLater, PreviousEpoch, PreviousLink, NonceChanged, Verdict}
-use Rattle.coniks_json.specs.ProofTexts.{digits}
-use Rattle.coniks_json.specs.Replies.{fault_data, bad_member_data}
+use Rattle.coniks_programs.specs.ProofTexts.{digits}
+use Rattle.coniks_programs.specs.Replies.{fault_data, bad_member_data}
 use Rattle.coniks_tool.specs.declared.audit.reply.AuditReply.{AuditReply}
 use Rattle.coniks_tool.specs.declared.audit.reply.AuditReply.TheVariants as reply
 

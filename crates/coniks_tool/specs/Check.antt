@@ -9,14 +9,14 @@ use Rattle.coniks_proof.specs.Sha256.{sha256}
 use Rattle.coniks_proof.specs.Proofs.{answer_of}
 use Rattle.coniks_proof.specs.declared.paths.Proof.{Proof as ProofOf}
 use Rattle.coniks_proof.specs.declared.checker.CheckFault.{CheckFault}
-use Rattle.coniks_json.specs.Members.{object_in, text_in, digits_in}
-use Rattle.coniks_json.specs.ProofObjects.{proof_in}
+use Rattle.coniks_programs.specs.Members.{object_in, text_in, digits_in}
+use Rattle.coniks_programs.specs.ProofObjects.{proof_in}
 use Rattle.coniks_tool.specs.CheckFaults.{check_fault}
 use Rattle.coniks_tool.specs.CheckReplies.{CheckOutcome, answered, not_json, no_member, at_fault, check_data, is_answered}
-use Rattle.coniks_json.specs.Turns.{Turn, answer_by}
+use Rattle.coniks_programs.specs.Turns.{Turn, answer_by}
 use Rattle.coniks_tool.specs.declared.check.question.Question.{Question}
-use Rattle.coniks_json.specs.declared.printing.Member.{Member}
-use Rattle.coniks_json.specs.declared.printing.Member.TheVariants.{Index, Name, Nonce, Root, Proof}
+use Rattle.coniks_programs.specs.declared.printing.Member.{Member}
+use Rattle.coniks_programs.specs.declared.printing.Member.TheVariants.{Index, Name, Nonce, Root, Proof}
 
 -- what a checker is asked: whether a proof is accepted for a name and its index, under a root and a nonce
 pub record Asked : Type 0 where

@@ -7,8 +7,8 @@ use Rattle.base64.specs.Engines.{standard}
 use Rattle.coniks_proof.specs.Proofs.{said}
 use Rattle.coniks_proof.specs.declared.checker.CheckFault.{CheckFault}
 use Rattle.coniks_proof.specs.declared.checker.CheckFault.TheVariants.{TooDeep, NameLength, KeyLength, WrongName, OtherIsSame, OtherOffPath, RootMismatch}
-use Rattle.coniks_json.specs.Replies.{fault_data, bad_member_data, member_name}
-use Rattle.coniks_json.specs.declared.printing.Member.{Member}
+use Rattle.coniks_programs.specs.Replies.{fault_data, bad_member_data, member_name}
+use Rattle.coniks_programs.specs.declared.printing.Member.{Member}
 use Rattle.coniks_tool.specs.declared.check.reply.CheckReply.{CheckReply}
 use Rattle.coniks_tool.specs.declared.check.reply.CheckReply.TheVariants as reply
 

@@ -3,7 +3,7 @@ use Rattle.std.specs.Prelude.{codes, Option, Some, None, option_map, option_and_
 use Rattle.coniks_proof.specs.Octets.{Octets}
 use Rattle.serde_json.specs.Data.{Data}
 use Rattle.serde_json.specs.Find.{get, as_null, as_str}
-use Rattle.coniks_json.specs.Members.{bytes_in}
+use Rattle.coniks_programs.specs.Members.{bytes_in}
 
 -- the expected key in a text, if it is valid: no text expects no key, and the empty text expects the empty key
 abbrev pub expectation_in : Option Octets → Option (Option Octets)

@@ -20,14 +20,14 @@ use Rattle.coniks_chain.specs.declared.seen.MonitorFault.TheVariants.{Audit, Che
 use Rattle.coniks_tool.specs.AuditFaults.{audit_fault}
 use Rattle.coniks_tool.specs.CheckFaults.{check_fault}
 use Rattle.coniks_tool.specs.Demo.{demo_index}
-use Rattle.coniks_json.specs.EntryLines.{entry_in}
+use Rattle.coniks_programs.specs.EntryLines.{entry_in}
 use Rattle.coniks_tool.specs.Expectations.{expected_in}
-use Rattle.coniks_json.specs.Members.{object_in, text_in}
+use Rattle.coniks_programs.specs.Members.{object_in, text_in}
 use Rattle.coniks_tool.specs.MonitorReplies.{MonitorOutcome, watched, expecting, not_json, no_member, at_fault, monitor_data, is_as_expected}
-use Rattle.coniks_json.specs.ProofObjects.{proof_in}
+use Rattle.coniks_programs.specs.ProofObjects.{proof_in}
 use Rattle.coniks_tool.specs.Seal.{is_seal}
-use Rattle.coniks_json.specs.Turns.{Turn, refused, answer_by}
-use Rattle.coniks_json.specs.declared.printing.Member.TheVariants.{Key, Proof, Entry}
+use Rattle.coniks_programs.specs.Turns.{Turn, refused, answer_by}
+use Rattle.coniks_programs.specs.declared.printing.Member.TheVariants.{Key, Proof, Entry}
 
 -- the key of the seal, the name and its index, what the next entry is compared with, and the key that is expected, if one is
 pub record MonitorState : Type 0 where

@@ -9,8 +9,8 @@ use Rattle.coniks_chain.specs.declared.seen.MonitorFault.{MonitorFault}
 use Rattle.coniks_chain.specs.declared.seen.MonitorFault.TheVariants.{Audit, Check}
 use Rattle.coniks_tool.specs.AuditReplies.{audit_fault_name}
 use Rattle.coniks_tool.specs.CheckReplies.{check_fault_name}
-use Rattle.coniks_json.specs.Replies.{fault_data, bad_member_data, member_name}
-use Rattle.coniks_json.specs.declared.printing.Member.{Member}
+use Rattle.coniks_programs.specs.Replies.{fault_data, bad_member_data, member_name}
+use Rattle.coniks_programs.specs.declared.printing.Member.{Member}
 use Rattle.coniks_tool.specs.declared.monitor.reply.MonitorReply.{MonitorReply}
 use Rattle.coniks_tool.specs.declared.monitor.reply.MonitorReply.TheVariants as reply
 

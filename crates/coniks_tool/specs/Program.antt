@@ -2,15 +2,15 @@
 use Rattle.std.specs.Prelude.{◌≡◌, ◌⊎◌, List, Bool, true, codes, Option, Some, None, Ok, Err}
 use Rattle.coniks_proof.specs.Octets.{Octets}
 use Rattle.clap.specs.Words.{subcommand_of}
-use Rattle.coniks_cli.specs.Endings.{EndsFor, Outcome}
-use Rattle.coniks_cli.specs.Help.{IsIdle, NeverBegins}
-use Rattle.coniks_cli.specs.declared.arguments.Unread.{Unread}
-use Rattle.coniks_cli.specs.declared.arguments.Unread.TheVariants as unread
-use Rattle.coniks_cli.specs.declared.ending.Ending.TheVariants.{Done, Refused, Unusable}
-use Rattle.coniks_json.specs.Faults.{FailsOn, FailsWithBoard}
+use Rattle.coniks_programs.specs.Endings.{EndsFor, Outcome}
+use Rattle.coniks_programs.specs.Help.{IsIdle, NeverBegins}
+use Rattle.coniks_programs.specs.declared.cli.arguments.Unread.{Unread}
+use Rattle.coniks_programs.specs.declared.cli.arguments.Unread.TheVariants as unread
+use Rattle.coniks_programs.specs.declared.cli.ending.Ending.TheVariants.{Done, Refused, Unusable}
+use Rattle.coniks_programs.specs.Faults.{FailsOn, FailsWithBoard}
 use Rattle.coniks_lines.specs.Runs.{EndsWell, Streams}
-use Rattle.coniks_json.specs.declared.fault.RunFault.{RunFault}
-use Rattle.coniks_json.specs.declared.fault.RunFault.TheVariants.{Read, Write, OutOfMemory, NoBoard}
+use Rattle.coniks_programs.specs.declared.fault.RunFault.{RunFault}
+use Rattle.coniks_programs.specs.declared.fault.RunFault.TheVariants.{Read, Write, OutOfMemory, NoBoard}
 use Rattle.coniks_tool.specs.Audit.{AuditState, audit_answer, none_audited}
 use Rattle.coniks_tool.specs.Check.{Stateless, check_answer, stateless}
 use Rattle.coniks_tool.specs.Choice.{Choice, run, check, audit, monitor, chosen, key_in, lacks_key, lacks_expectation}

@@ -11,7 +11,7 @@ use Rattle.coniks_directory.specs.declared.update.CommitFault.TheVariants.{Batch
 use Rattle.coniks_directory.specs.declared.update.InstallFault.TheVariants as install
 use Rattle.coniks_directory.specs.declared.lookup.LookupFault.{LookupFault}
 use Rattle.coniks_directory.specs.declared.lookup.LookupFault.TheVariants as lookup
-use Rattle.coniks_json.specs.Refusals.{Refusal, bad_batch, bad_name_length, batch_too_long, board_full, epoch_not_later, unknown_epoch}
+use Rattle.coniks_programs.specs.Refusals.{Refusal, bad_batch, bad_name_length, batch_too_long, board_full, epoch_not_later, unknown_epoch}
 use Rattle.coniks_tool.specs.Limits.{most_epochs}
 
 -- why no batch is installed under a number: it isn't later, else there are as many epochs as the board takes heads

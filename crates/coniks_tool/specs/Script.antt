@@ -14,14 +14,14 @@ use Rattle.coniks_directory.specs.History.{Shown, latest_nonce, latest_registry,
 use Rattle.coniks_directory.specs.Runs.{Batch, shown_by}
 use Rattle.coniks_tool.specs.Chains.{chain_of, next_entry}
 use Rattle.coniks_tool.specs.Demo.{demo_index}
-use Rattle.coniks_json.specs.Members.{object_in, text_in, number_in, array_in, digits_in, if_there}
-use Rattle.coniks_json.specs.Operations.{operations_in}
-use Rattle.coniks_json.specs.Paths.{path_to}
+use Rattle.coniks_programs.specs.Members.{object_in, text_in, number_in, array_in, digits_in, if_there}
+use Rattle.coniks_programs.specs.Operations.{operations_in}
+use Rattle.coniks_programs.specs.Paths.{path_to}
 use Rattle.coniks_tool.specs.Refusals.{refusal}
-use Rattle.coniks_json.specs.Refusals.{Refusal, already_open, bad_member, bad_name_length, bad_operation, no_command, not_json, not_open, unknown_epoch}
+use Rattle.coniks_programs.specs.Refusals.{Refusal, already_open, bad_member, bad_name_length, bad_operation, no_command, not_json, not_open, unknown_epoch}
 use Rattle.coniks_tool.specs.ScriptReplies.{Outcome, because, installed, is_accepted, looked_up, opened, reply_data}
-use Rattle.coniks_json.specs.Turns.{Turn, refused, answer_by}
-use Rattle.coniks_json.specs.declared.printing.Member.TheVariants.{Key, Nonce, Policy, Epoch, Ops, Name}
+use Rattle.coniks_programs.specs.Turns.{Turn, refused, answer_by}
+use Rattle.coniks_programs.specs.declared.printing.Member.TheVariants.{Key, Nonce, Policy, Epoch, Ops, Name}
 
 -- a directory that was opened: its key, nonce and policy, and its history
 pub record ScriptDirectory : Type 0 where

@@ -5,10 +5,10 @@ use Rattle.serde_json.specs.Data.{Data, string, number, unsigned, object, member
 use Rattle.coniks_proof.specs.Octets.{Octets}
 use Rattle.coniks_chain.specs.declared.entry.Entry.{Entry}
 use Rattle.coniks_chain.specs.Entries.{entry_bytes}
-use Rattle.coniks_json.specs.Paths.{Path, path_of}
-use Rattle.coniks_json.specs.ProofTexts.{digits}
-use Rattle.coniks_json.specs.Refusals.{Refusal, refusal_data, refusal_of}
-use Rattle.coniks_json.specs.Replies.{looked_up_data, opened_data}
+use Rattle.coniks_programs.specs.Paths.{Path, path_of}
+use Rattle.coniks_programs.specs.ProofTexts.{digits}
+use Rattle.coniks_programs.specs.Refusals.{Refusal, refusal_data, refusal_of}
+use Rattle.coniks_programs.specs.Replies.{looked_up_data, opened_data}
 use Rattle.coniks_tool.specs.declared.run.reply.Reply.{Reply}
 use Rattle.coniks_tool.specs.declared.run.reply.Reply.TheVariants as reply
 

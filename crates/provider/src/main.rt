@@ -1,14 +1,7 @@
-//! The program `provider`, which passes its settings and streams to `coniks_provider::run_provider`.
+//! The program `provider`, which passes its arguments and streams to `coniks_provider::program`.
 #![tactic(auto)]
 
-mod command;
-mod ending;
-mod program;
-mod settings;
-
-use coniks_cli::words;
-use coniks_lines::{SystemIn, SystemOut};
-use program::{program, unread_words};
+use coniks_provider::{SystemIn, SystemOut, program, unread_words, words};
 use std::process::ExitCode;
 
 /// Runs `provider` on the arguments and the standard streams, and returns its exit status.

@@ -4,7 +4,7 @@ ghost use Rattle.std.specs.Prelude.{◌≡◌};
 ghost use Rattle.serde_json.specs.View.{view};
 ghost use Rattle.coniks_provider.specs.Replays.{kind_in, kind_of_command, kind_without_command};
 
-use coniks_json::members::text;
+use coniks_programs::members::text;
 use serde_json::Value;
 
 /// What a line is, by its members.

@@ -7,7 +7,7 @@ ghost use Rattle.coniks_provider.specs.Replays.{after_first, check_named, check_
 use crate::claims::claim_in;
 use crate::replay::kind::Kind;
 use crate::replay::refusal::{Named, Why};
-use coniks_json::members::{digits32, number};
+use coniks_programs::members::{digits32, number};
 use serde_json::Value;
 
 /// A log so far.

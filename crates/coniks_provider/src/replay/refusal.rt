@@ -3,8 +3,8 @@
 ghost use Rattle.std.specs.Prelude.{◌≡◌, IfOk};
 ghost use Rattle.coniks_provider.specs.Replays.{why_text, name_of};
 
-use coniks_json::printable::Printable;
-use coniks_json::printing::{bad_member, fault};
+use coniks_programs::printable::Printable;
+use coniks_programs::printing::{bad_member, fault};
 use std::alloc::{AllocError, Global};
 
 /// A member of a line of a log or of a snapshot.

@@ -5,8 +5,8 @@ ghost use Rattle.serde_json.specs.Written.{compact_text};
 ghost use Rattle.coniks_provider.specs.Replays.{refused_text, replayed_data};
 
 use crate::stored::put_last;
-use coniks_json::objects::{Field, Shown, object};
-use coniks_json::printable::Printable;
+use coniks_programs::objects::{Field, Shown, object};
+use coniks_programs::printable::Printable;
 use std::alloc::{AllocError, Global};
 
 /// The latest epoch of a directory, as a replay prints it.

@@ -7,7 +7,7 @@ ghost use Rattle.coniks_provider.specs.Replays.{after_bodies, after_entries, bod
 use crate::claims::log_in;
 use crate::replay::refusal::{Named, Why};
 use coniks_chain::{Entry, link};
-use coniks_json::members::{array, bytes_of_digits, digits32, number};
+use coniks_programs::members::{array, bytes_of_digits, digits32, number};
 use coniks_proof::Sha256Hash;
 use serde_json::Value;
 

@@ -5,9 +5,9 @@ ghost use Rattle.serde_json.specs.Written.{compact_text};
 ghost use Rattle.coniks_tool.specs.AuditReplies.{audit_data, audit_fault_name, audit_outcome, audited_data};
 
 use coniks_chain::AuditFault;
-use coniks_json::objects::{Field, Shown, object};
-use coniks_json::printable::Printable;
-use coniks_json::printing::{bad_member, fault};
+use coniks_programs::objects::{Field, Shown, object};
+use coniks_programs::printable::Printable;
+use coniks_programs::printing::{bad_member, fault};
 use coniks_proof::Digest;
 use std::alloc::{AllocError, Global};
 

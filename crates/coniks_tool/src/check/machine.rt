@@ -4,15 +4,15 @@ ghost use Rattle.std.specs.Prelude.{◌≡◌, ◌<◌, ◌+◌, ◌^◌, ◌++�
 ghost use Rattle.serde_json.specs.View.{view};
 ghost use Rattle.serde_json.specs.Written.{compact_text};
 ghost use Rattle.coniks_lines.specs.Runs.{IsRunOf, streams};
-ghost use Rattle.coniks_json.specs.Faults.{FailsOn};
+ghost use Rattle.coniks_programs.specs.Faults.{FailsOn};
 ghost use Rattle.coniks_tool.specs.Check.{Stateless, asked_by, asked_in, check_answer, question_outcome, stateless};
 ghost use Rattle.coniks_tool.specs.CheckReplies.{check_data, check_outcome, is_answered};
 
 use crate::check::question::{Question, read_question};
 use crate::check::reply::CheckReply;
-use coniks_json::fault::{RunFault, of_run};
-use coniks_json::members::read_object;
 use coniks_lines::{ByteIn, ByteOut, LineMachine, run_lines};
+use coniks_programs::fault::{RunFault, of_run};
+use coniks_programs::members::read_object;
 use coniks_proof::{Sha256Hash, check};
 use serde_json::Value;
 use std::alloc::{AllocError, Global};

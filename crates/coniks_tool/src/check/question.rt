@@ -4,9 +4,9 @@ ghost use Rattle.std.specs.Prelude.{◌≡◌, IfOk};
 ghost use Rattle.serde_json.specs.View.{view};
 ghost use Rattle.coniks_tool.specs.Check.{asked_in, question_read};
 
-use coniks_json::members::{digits32, text};
-use coniks_json::printing::Member;
-use coniks_json::proof_object::read_proof;
+use coniks_programs::members::{digits32, text};
+use coniks_programs::printing::Member;
+use coniks_programs::proof_object::read_proof;
 use coniks_proof::{Digest, Index, Nonce, Proof};
 use serde_json::Value;
 use std::alloc::{AllocError, Global};

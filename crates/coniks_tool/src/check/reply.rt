@@ -5,9 +5,9 @@ ghost use Rattle.serde_json.specs.Written.{compact_text};
 ghost use Rattle.coniks_proof.specs.Proofs.{said};
 ghost use Rattle.coniks_tool.specs.CheckReplies.{answer_data, key_data, check_data, check_fault_name, check_outcome};
 
-use coniks_json::objects::{Field, Shown, object};
-use coniks_json::printable::Printable;
-use coniks_json::printing::{Member, bad_member, fault, member_text};
+use coniks_programs::objects::{Field, Shown, object};
+use coniks_programs::printable::Printable;
+use coniks_programs::printing::{Member, bad_member, fault, member_text};
 use coniks_proof::{Answer, CheckFault};
 use std::alloc::{AllocError, Global};
 

@@ -3,13 +3,13 @@
 ghost use Rattle.std.specs.Prelude.{◌≡◌, ℤ, IfOk, false, true};
 ghost use Rattle.clap.specs.Words.{app_of, new_app};
 ghost use Rattle.clap.specs.declared.builder.command.Command.TheViews.{out-Command as fields_of};
-ghost use Rattle.coniks_cli.specs.Commands.{IsCommand, IsOption};
+ghost use Rattle.coniks_programs.specs.Commands.{IsCommand, IsOption};
 ghost use Rattle.coniks_tool.specs.Keydir.{audit_app, check_app, key_rule, keydir, keydir_top, monitor_app, number_rule, run_app, text_rule};
 
 use crate::cli::help;
 use clap::builder::ValueParser;
 use clap::{Arg, Command};
-use coniks_cli::{with_below, with_option};
+use coniks_programs::cli::{with_below, with_option};
 use coniks_work::{MAX_DEPTH, MAX_WORKERS};
 use std::alloc::{AllocError, Global};
 

@@ -1,11 +1,11 @@
 //! The error lines of the program.
 
 ghost use Rattle.std.specs.Prelude.{◌≡◌, option_map};
-ghost use Rattle.coniks_cli.specs.Endings.{told_of};
+ghost use Rattle.coniks_programs.specs.Endings.{told_of};
 ghost use Rattle.coniks_tool.specs.Program.{fault_line, unread_line};
 
-use coniks_cli::{Ending, Unread};
-use coniks_json::fault::RunFault;
+use coniks_programs::cli::{Ending, Unread};
+use coniks_programs::fault::RunFault;
 
 /// The error line for a bad key.
 pub(crate) const BAD_KEY: &str = "keydir: bad key\n";

@@ -2,7 +2,7 @@
 
 ghost use Rattle.std.specs.Prelude.{◌≡◌, ◌<◌, ◌+◌, ◌^◌, IfErr, IfOk, Some, option_map};
 ghost use Rattle.coniks_lines.specs.Runs.{streams};
-ghost use Rattle.coniks_json.specs.declared.fault.RunFault.TheVariants.{OutOfMemory};
+ghost use Rattle.coniks_programs.specs.declared.fault.RunFault.TheVariants.{OutOfMemory};
 ghost use Rattle.coniks_tool.specs.Choice.{IsWithinLimits, audit, choice_of, monitor};
 ghost use Rattle.coniks_tool.specs.Expectations.{expectation_in};
 ghost use Rattle.coniks_tool.specs.Program.{EndsBy};
@@ -14,10 +14,10 @@ use crate::cli::ending::{BAD_EXPECTATION, BAD_KEY};
 use crate::monitor::expectation::expectation;
 use crate::monitor::machine::run_monitor;
 use crate::run::machine::run_script;
-use coniks_cli::Ending;
-use coniks_json::fault::RunFault;
-use coniks_json::members::bytes_of_digits;
 use coniks_lines::{ByteIn, ByteOut};
+use coniks_programs::cli::Ending;
+use coniks_programs::fault::RunFault;
+use coniks_programs::members::bytes_of_digits;
 use coniks_proof::Bytes;
 use std::alloc::Global;
 use std::thread::Threads;

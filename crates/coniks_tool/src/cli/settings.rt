@@ -6,13 +6,13 @@ ghost use Rattle.clap.specs.Walk.{byte_or_zero};
 ghost use Rattle.clap.specs.Words.{fault_of, first_of, found_of, rows_of, subcommand_of, takes};
 ghost use Rattle.coniks_tool.specs.Keydir.{keydir};
 ghost use Rattle.coniks_tool.specs.Choice.{choice_by, choice_of, chosen, depth_of, number_of, run, text_of, workers_of, AreWordsWithin, IsWithinLimits};
-ghost use Rattle.coniks_cli.specs.Refusals.{IsRefusal};
-ghost use Rattle.coniks_cli.specs.declared.refusing.WordsFault.TheVariants.{OutOfMemory};
+ghost use Rattle.coniks_programs.specs.WordsFaults.{IsRefusal};
+ghost use Rattle.coniks_programs.specs.declared.cli.refusing.WordsFault.TheVariants.{OutOfMemory};
 
 use crate::cli::choice::Settings;
 use crate::cli::command::keydir_command;
 use clap::ArgMatches;
-use coniks_cli::{WordsFault, refused};
+use coniks_programs::cli::{WordsFault, refused};
 use std::alloc::Global;
 use std::convert::AsStr;
 

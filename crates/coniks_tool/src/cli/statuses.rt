@@ -1,17 +1,17 @@
 //! The whole program over its streams.
 
 ghost use Rattle.std.specs.Prelude.{◌≡◌, ◌<◌, ◌+◌, ◌^◌, map};
-ghost use Rattle.coniks_cli.specs.Endings.{IsOutcome, unread_status};
-ghost use Rattle.coniks_cli.specs.Telling.{Tells};
+ghost use Rattle.coniks_programs.specs.Endings.{IsOutcome, unread_status};
+ghost use Rattle.coniks_programs.specs.Telling.{Tells};
 ghost use Rattle.coniks_lines.specs.Runs.{streams};
 ghost use Rattle.coniks_tool.specs.Program.{Ends, fault_line, unread_line};
 
 use crate::cli::ending::{told, unread_text};
 use crate::cli::running::run_settings;
 use crate::cli::settings::settings;
-use coniks_cli::{Unread, WordsFault, explain, status, tell, tell_if};
-use coniks_json::fault::RunFault;
 use coniks_lines::{ByteIn, ByteOut};
+use coniks_programs::cli::{Unread, WordsFault, explain, status, tell, tell_if};
+use coniks_programs::fault::RunFault;
 use std::alloc::Global;
 use std::convert::AsStr;
 use std::thread::Threads;

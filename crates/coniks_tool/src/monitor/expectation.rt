@@ -4,7 +4,7 @@ ghost use Rattle.std.specs.Prelude.{◌≡◌, IfOk, option_map};
 ghost use Rattle.serde_json.specs.View.{view};
 ghost use Rattle.coniks_tool.specs.Expectations.{expectation_in, expectation_of, expected_in};
 
-use coniks_json::members::bytes_of_base64;
+use coniks_programs::members::bytes_of_base64;
 use coniks_proof::Bytes;
 use serde_json::Value;
 use std::alloc::{AllocError, Global};

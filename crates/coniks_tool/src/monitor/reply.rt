@@ -7,9 +7,9 @@ ghost use Rattle.coniks_tool.specs.MonitorReplies.{expecting_data, monitor_data,
 use crate::audit::reply::audit_fault_text;
 use crate::check::reply::check_fault_text;
 use coniks_chain::{MonitorFault, Seen};
-use coniks_json::objects::{Field, Shown, object};
-use coniks_json::printable::Printable;
-use coniks_json::printing::{Member, bad_member, fault, member_text};
+use coniks_programs::objects::{Field, Shown, object};
+use coniks_programs::printable::Printable;
+use coniks_programs::printing::{Member, bad_member, fault, member_text};
 use std::alloc::{AllocError, Global};
 
 /// The answer of `monitor` to a line.

@@ -7,9 +7,9 @@ ghost use Rattle.serde_json.specs.Data.{string};
 ghost use Rattle.serde_json.specs.Find.{get};
 ghost use Rattle.coniks_chain.specs.declared.entry.Entry.{Entry};
 ghost use Rattle.coniks_tool.specs.Limits.{most_epochs};
-ghost use Rattle.coniks_json.specs.Paths.{its_entry, Path};
-ghost use Rattle.coniks_json.specs.ProofTexts.{end_data};
-ghost use Rattle.coniks_json.specs.Replies.{looked_up_data};
+ghost use Rattle.coniks_programs.specs.Paths.{its_entry, Path};
+ghost use Rattle.coniks_programs.specs.ProofTexts.{end_data};
+ghost use Rattle.coniks_programs.specs.Replies.{looked_up_data};
 ghost use Rattle.coniks_tool.specs.Script.{ScriptState, script_answer};
 
 use crate::run::store::BOARD_HEADS;

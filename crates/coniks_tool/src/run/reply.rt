@@ -6,10 +6,10 @@ ghost use Rattle.coniks_tool.specs.ScriptReplies.{outcome_of, reply_data, instal
 
 use coniks_chain::Entry;
 use coniks_directory::SignedProof;
-use coniks_json::objects::{Field, Shown, object};
-use coniks_json::printable::Printable;
-use coniks_json::refusal::Refusal;
-use coniks_json::replies::{looked_up, opened};
+use coniks_programs::objects::{Field, Shown, object};
+use coniks_programs::printable::Printable;
+use coniks_programs::refusal::Refusal;
+use coniks_programs::replies::{looked_up, opened};
 use coniks_proof::Digest;
 use std::alloc::{AllocError, Global};
 

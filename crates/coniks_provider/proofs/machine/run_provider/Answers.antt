@@ -1,5 +1,5 @@
 use Rattle.coniks_lines.proofs.Lemmas.{run_of}
-use Rattle.coniks_json.proofs.Lemmas.{run_is}
+use Rattle.coniks_programs.proofs.Lemmas.{run_is}
 use Rattle.coniks_provider.specs.Turns.{provider_answer}
 use Rattle.coniks_provider.proofs.machine.run_provider.Goals as goal
 

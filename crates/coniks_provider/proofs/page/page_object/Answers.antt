@@ -1,6 +1,6 @@
 use Rattle.std.proofs.Common.{map, ◌∙◌}
 use Rattle.coniks_directory.specs.Bindings.{indexed_binding}
-use Rattle.coniks_json.proofs.Lemmas.{text_is}
+use Rattle.coniks_programs.proofs.Lemmas.{text_is}
 use Rattle.coniks_provider.specs.Answers.{page_data}
 use Rattle.coniks_provider.proofs.page.page_object.Goals as goal
 

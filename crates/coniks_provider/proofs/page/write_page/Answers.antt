@@ -1,5 +1,5 @@
 use Rattle.json.specs.Token.{end_object}
-use Rattle.coniks_json.proofs.Lemmas.{adds_before, adds_last, adds_more, adds_one}
+use Rattle.coniks_programs.proofs.Lemmas.{adds_before, adds_last, adds_more, adds_one}
 use Rattle.coniks_provider.proofs.page.write_page.Goals as goal
 
 pub returns : goal.returns

@@ -3,7 +3,7 @@ use Rattle.coniks_proof.specs.declared.values.TheConstants.{MAX_OPERATIONS}
 use Rattle.coniks_directory.specs.SuppliedBatches.{indexed}
 use Rattle.coniks_directory.specs.declared.batch.BatchFault.TheVariants.{At}
 use Rattle.coniks_directory.specs.declared.batch.OpFault.{OpFault}
-use Rattle.coniks_json.specs.Refusals.{batch_too_long, refusal_of}
+use Rattle.coniks_programs.specs.Refusals.{batch_too_long, refusal_of}
 use Rattle.coniks_provider.specs.Answers.{because, bindings_added}
 use Rattle.coniks_provider.specs.Stores.{restore_by, restore_of}
 use Rattle.coniks_provider.specs.Turns.{restore_and, restoring, restoring_refusal}

@@ -1,7 +1,7 @@
 use Rattle.std.proofs.Common.{List, ℕ, ap, ◌∙◌}
 use Rattle.std.specs.String.{string_bytes}
 use Rattle.coniks_proof.specs.declared.values.Index.{Index}
-use Rattle.coniks_json.specs.Paths.{path_of}
+use Rattle.coniks_programs.specs.Paths.{path_of}
 use Rattle.coniks_provider.specs.Answers.{looked_up}
 use Rattle.coniks_provider.specs.Stores.{provided_of}
 use Rattle.coniks_provider.specs.Turns.{index_with}

@@ -1,4 +1,4 @@
-use Rattle.coniks_json.proofs.Lemmas.{run_is}
+use Rattle.coniks_programs.proofs.Lemmas.{run_is}
 use Rattle.coniks_lines.proofs.Lemmas.{run_of}
 use Rattle.coniks_tool.specs.Audit.{audit_answer}
 use Rattle.coniks_tool.proofs.AuditChainLemmas.{all-chain}

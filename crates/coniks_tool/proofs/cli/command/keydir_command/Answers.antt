@@ -2,7 +2,7 @@ use Rattle.std.proofs.Common.{ap}
 use Rattle.std.specs.Prelude.{IfOk}
 use Rattle.std.proofs.lemmas.Result.{IfOk-weaker}
 use Rattle.clap.specs.Words.{App, with_subcommand}
-use Rattle.coniks_cli.specs.Commands.{IsCommand}
+use Rattle.coniks_programs.specs.Commands.{IsCommand}
 use Rattle.coniks_tool.specs.Keydir.{audit_app, check_app, keydir, keydir_top, monitor_app, run_app, with_run_and_check}
 use Rattle.coniks_tool.proofs.cli.command.keydir_command.Goals as goal
 

@@ -1,5 +1,5 @@
 use Rattle.std.proofs.Common.{◌∙◌, inl, inr, map, refl, sym}
-use Rattle.coniks_cli.proofs.Lemmas.{explains_for}
+use Rattle.coniks_programs.proofs.Lemmas.{explains_for}
 use Rattle.coniks_tool.specs.Keydir.{keydir}
 use Rattle.coniks_tool.proofs.ProgramLemmas.{run-ends_for}
 use Rattle.coniks_tool.specs.Choice.{choice_of}

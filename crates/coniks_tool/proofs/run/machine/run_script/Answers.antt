@@ -1,8 +1,8 @@
 use Rattle.std.proofs.Common.{◌≡◌, subst}
 use Rattle.coniks_lines.specs.Runs.{IsRunOf, streams}
 use Rattle.coniks_lines.proofs.Lemmas.{run_of}
-use Rattle.coniks_json.specs.Faults.{FailsWithBoard, of_run}
-use Rattle.coniks_json.proofs.Lemmas.{run_is}
+use Rattle.coniks_programs.specs.Faults.{FailsWithBoard, of_run}
+use Rattle.coniks_programs.proofs.Lemmas.{run_is}
 use Rattle.coniks_tool.specs.Script.{ScriptState, script_answer}
 use Rattle.coniks_tool.proofs.run.machine.run_script.Goals as goal
 

@@ -2,7 +2,7 @@ use Rattle.std.proofs.Common.{◌≡◌, ap, subst, sym, ◌∙◌, Option, None
 use Rattle.coniks_chain.specs.declared.auditor.AuditorState.{AuditorState}
 use Rattle.coniks_directory.specs.Chain.{IsChainOf}
 use Rattle.coniks_proof.specs.Sha256.{sha256}
-use Rattle.coniks_json.specs.Refusals.{refusal_of}
+use Rattle.coniks_programs.specs.Refusals.{refusal_of}
 use Rattle.coniks_tool.specs.Chains.{chain_of}
 use Rattle.coniks_tool.specs.Demo.{demo_index}
 use Rattle.coniks_tool.specs.Seal.{is_seal}

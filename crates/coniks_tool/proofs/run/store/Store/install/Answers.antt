@@ -1,6 +1,6 @@
 use Rattle.std.proofs.Common.{◌≡◌, sym, ap, ◌∙◌, Some}
-use Rattle.coniks_json.specs.Refusals.{refusal_of}
-use Rattle.coniks_json.specs.Turns.{refused}
+use Rattle.coniks_programs.specs.Refusals.{refusal_of}
+use Rattle.coniks_programs.specs.Turns.{refused}
 use Rattle.coniks_tool.specs.Demo.{demo_index}
 use Rattle.coniks_tool.specs.Refusals.{refusal}
 use Rattle.coniks_tool.specs.ScriptReplies.{because, installed}

@@ -1,3 +1,0 @@
-mod CommandLemmas
-pub mod Lemmas
-mod TellingLemmas

@@ -1,7 +1,0 @@
-mod FaultLemmas
-pub mod Lemmas
-mod OperationsLemmas
-mod PathLemmas
-mod PrintingLemmas
-mod ProofObjectLemmas
-mod DigitLemmas

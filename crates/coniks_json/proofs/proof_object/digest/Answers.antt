@@ -1,5 +1,0 @@
-use Rattle.std.proofs.Common.{rules}
-use Rattle.coniks_json.proofs.proof_object.digest.Goals as goal
-
-pub returns-in-None : goal.returns-in-None
-returns-in-None c = search rules

@@ -1,0 +1,17 @@
+pub mod Commands
+pub mod Endings
+pub mod EntryLines
+pub mod Faults
+pub mod Help
+pub mod Members
+pub mod Objects
+pub mod Operations
+pub mod Paths
+pub mod Printing
+pub mod ProofObjects
+pub mod ProofTexts
+pub mod Refusals
+pub mod Replies
+pub mod Telling
+pub mod Turns
+pub mod WordsFaults
