@@ -2,7 +2,7 @@
 //!
 //! It stops holding the worker after 2^32 checks, so that each test ends.
 
-use coniks_work::Gate;
+use coniks_threads::Gate;
 use std::sync::atomic::{AtomicU64, Ordering};
 
 /// A gate that holds the first job until a number of arrivals, its own included, and records whether they came.

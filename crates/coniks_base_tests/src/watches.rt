@@ -4,7 +4,7 @@ ghost use Rattle.std.specs.Prelude.{◌≡◌, ◌<◌, length, All, IfOk};
 
 use coniks_chain::{Entry, link};
 use coniks_proof::{Head, Sha256Hash};
-use coniks_shared::{Board, Publisher, Watcher};
+use coniks_threads::{Board, Publisher, Watcher};
 use std::alloc::{AllocError, Global};
 use std::sync::atomic::{AtomicU64, Ordering};
 use std::thread;

@@ -9,7 +9,7 @@ use Rattle.coniks_directory.proofs.Words.{history_of, last_count, latest_epoch, 
 use Rattle.coniks_directory.proofs.Words.{numbers_of, records_after, registry_after, shown_after, shown_of}
 use Rattle.coniks_chain.specs.declared.entry.Entry.{Entry}
 use Rattle.coniks_proof.specs.declared.values.Head.{Head}
-use Rattle.coniks_shared.specs.Boards.{BoardEnd, board_end}
+use Rattle.coniks_threads.specs.Boards.{BoardEnd, board_end}
 use Rattle.coniks_directory.specs.Directories.{heads}
 use Rattle.coniks_directory.specs.Installs.{Follows, Keeps}
 use Rattle.coniks_directory.specs.Installed.{Attached}

@@ -44,8 +44,8 @@ pub use Rattle.coniks_tree.specs.declared.table.Node.{Node}
 pub use Rattle.coniks_tree.specs.declared.table.Record.{Record}
 pub use Rattle.coniks_tree.specs.declared.table.RecordNo.{RecordNo}
 pub use Rattle.coniks_tree.specs.declared.table.Root.{Root}
-pub use Rattle.coniks_shared.specs.Lists.{Begins, last_of}
-pub use Rattle.coniks_work.specs.Grown.{IsOldMap, unchanged}
+pub use Rattle.coniks_threads.specs.Lists.{Begins, last_of}
+pub use Rattle.coniks_threads.specs.Grown.{IsOldMap, unchanged}
 pub use Rattle.coniks_chain.specs.Chain.{Continues, Follows, before_at, auditor_after, epoch_before, link_before}
 pub use Rattle.coniks_chain.specs.Entries.{body_bytes}
 pub use Rattle.coniks_chain.specs.declared.auditor.AuditorState.{AuditorState}

@@ -4,9 +4,9 @@ use Rattle.coniks_proof.specs.Registry.{Registry}
 use Rattle.coniks_proof.specs.Batches.{Kind, register, change, Operation, Fault, name_length, key_length, name_twice, name_taken, name_unknown, index_clash, first_fault}
 use Rattle.coniks_proof.specs.Octets.{Octets}
 use Rattle.coniks_proof.specs.declared.values.TheConstants.{MAX_OPERATIONS}
-use Rattle.coniks_work.specs.Parallel.{AreWorkers}
-use Rattle.coniks_work.specs.declared.building.TheConstants.{MAX_WORKERS}
-use Rattle.coniks_work.specs.declared.jobs.TheConstants.{MAX_DEPTH}
+use Rattle.coniks_threads.specs.Parallel.{AreWorkers}
+use Rattle.coniks_threads.specs.declared.building.TheConstants.{MAX_WORKERS}
+use Rattle.coniks_threads.specs.declared.jobs.TheConstants.{MAX_DEPTH}
 use Rattle.coniks_directory.specs.History.{Shown}
 use Rattle.coniks_directory.specs.declared.batch.Op.{Op}
 use Rattle.coniks_directory.specs.declared.batch.OpKind.{OpKind}

@@ -14,7 +14,7 @@ use Rattle.coniks_tree.specs.declared.part.Change.{Change}
 use Rattle.coniks_tree.specs.declared.part.Part.{Part}
 use Rattle.coniks_tree.specs.declared.table.Record.{Record}
 use Rattle.coniks_tree.specs.declared.table.Root.{Root}
-use Rattle.coniks_work.specs.Grown.{IsOldMap, unchanged}
+use Rattle.coniks_threads.specs.Grown.{IsOldMap, unchanged}
 use Rattle.coniks_directory.specs.Batches.{most_anew, most_nodes, operations}
 use Rattle.coniks_directory.specs.History.{latest_registry}
 use Rattle.coniks_directory.specs.Nodes.{epoch_nodes, index_entries}

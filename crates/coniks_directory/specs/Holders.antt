@@ -7,7 +7,7 @@ use Rattle.coniks_tree.specs.Table.{Table, table}
 use Rattle.coniks_tree.specs.Parts.{node_count}
 use Rattle.coniks_tree.specs.declared.table.Record.{Record}
 use Rattle.coniks_tree.specs.declared.table.Root.{Root}
-use Rattle.coniks_work.specs.Grown.{unchanged}
+use Rattle.coniks_threads.specs.Grown.{unchanged}
 use Rattle.coniks_directory.specs.Batches.{most_nodes}
 use Rattle.coniks_directory.specs.History.{latest_nonce, latest_registry}
 use Rattle.coniks_directory.specs.State.{ShowsRegistry, State, history_of, registered_of}

@@ -6,7 +6,7 @@ use Rattle.coniks_chain.specs.Entries.{body_bytes}
 use Rattle.coniks_chain.specs.declared.entry.Body.{Body}
 use Rattle.coniks_chain.specs.declared.entry.Entry.{Entry}
 use Rattle.coniks_chain.specs.declared.entry.Signature.{Signature}
-use Rattle.coniks_shared.specs.Boards.{BoardEnd, Boarded}
+use Rattle.coniks_threads.specs.Boards.{BoardEnd, Boarded}
 use Rattle.coniks_directory.specs.Batches.{IsAccepted, most_nodes, operations}
 use Rattle.coniks_directory.specs.Directories.{HasGoodChain, NextBody, NextBodyBy, heads, history, registry}
 use Rattle.coniks_directory.specs.History.{Shown, nonce_bytes}

@@ -8,7 +8,7 @@ ghost use Rattle.coniks_directory.specs.Batches.{IsBatchFault};
 ghost use Rattle.coniks_directory.specs.declared.batch.BatchFault.TheVariants.{BatchTooLong};
 
 use coniks_proof::{Bytes, MAX_KEY, MAX_NAME, MAX_OPERATIONS, Opening};
-use coniks_work::{MAX_DEPTH, MAX_WORKERS, Parallelism, ParallelismFault};
+use coniks_threads::{MAX_DEPTH, MAX_WORKERS, Parallelism, ParallelismFault};
 use std::alloc::{AllocError, Global};
 use thiserror::Error;
 

@@ -25,8 +25,7 @@ use crate::state::DirectoryState;
 use crate::update::{CommitFault, InstallFault, Prepared, in_install, in_prepare};
 use coniks_chain::{Body, Entry, Sign, link};
 use coniks_proof::{Digest, Hash32, Index, MAX_NAME, Nonce, Proof};
-use coniks_shared::{Board, Publisher};
-use coniks_work::{Gate, Parallelism};
+use coniks_threads::{Board, Gate, Parallelism, Publisher};
 pub use restoring::Restoring;
 use std::alloc::Global;
 use std::marker::Model;
@@ -333,8 +332,8 @@ impl<H: Hash32 + Sync, X: IndexSource> Directory<H, X> {
     /// reads the directory, so other threads can look up names meanwhile. It can wait, because it joins its worker
     /// threads.
     ///
-    /// `workers` is 1 to `coniks_work::MAX_WORKERS`. The split depth `depth`, the length in bits of the prefixes that are
-    /// built apart, is 0 to `coniks_work::MAX_DEPTH`. The update is the same for every choice of them. The epoch keeps
+    /// `workers` is 1 to `coniks_threads::MAX_WORKERS`. The split depth `depth`, the length in bits of the prefixes that are
+    /// built apart, is 0 to `coniks_threads::MAX_DEPTH`. The update is the same for every choice of them. The epoch keeps
     /// the latest epoch's nonce and the version of its entry. The first epoch has the nonce of `open` and version 1.
     ///
     /// # Errors
@@ -342,8 +341,8 @@ impl<H: Hash32 + Sync, X: IndexSource> Directory<H, X> {
     /// If several apply, the first in this order is returned. `OutOfMemory` can also replace `At`. After an error nothing
     /// of the batch is kept, and the same call can be made again.
     ///
-    /// - `Workers` if `workers` is not 1 to `coniks_work::MAX_WORKERS`.
-    /// - `Depth` if `depth` is more than `coniks_work::MAX_DEPTH`.
+    /// - `Workers` if `workers` is not 1 to `coniks_threads::MAX_WORKERS`.
+    /// - `Depth` if `depth` is more than `coniks_threads::MAX_DEPTH`.
     /// - `BatchTooLong` if the batch has more than `MAX_OPERATIONS` operations.
     /// - `At` if an operation has an error; it contains the position of the first such operation and its first error.
     /// - `OutOfMemory` if an allocation fails.

@@ -8,7 +8,7 @@ ghost use Rattle.coniks_tree.specs.Entries.{Lists, in_order};
 ghost use Rattle.coniks_tree.specs.Parts.{AllPlaced, entries_in};
 ghost use Rattle.coniks_tree.specs.Table.{Extends, Numbered};
 ghost use Rattle.coniks_tree.specs.declared.table.Record.{Record};
-ghost use Rattle.coniks_work.specs.Grown.{IsOldMap};
+ghost use Rattle.coniks_threads.specs.Grown.{IsOldMap};
 ghost use Rattle.coniks_directory.specs.Built.{AreAligned, IsGrowth};
 
 use coniks_proof::MAX_LEVEL;

@@ -4,7 +4,7 @@ ghost use Rattle.std.specs.Prelude.{◌≡◌, ◌≢◌, ◌<◌, ◌+◌, ◌-
 ghost use Rattle.coniks_proof.specs.Octets.{Octets};
 ghost use Rattle.coniks_chain.specs.Entries.{link_preimage};
 ghost use Rattle.coniks_chain.specs.declared.entry.Body.{Body};
-ghost use Rattle.coniks_shared.specs.Boards.{board_end};
+ghost use Rattle.coniks_threads.specs.Boards.{board_end};
 ghost use Rattle.coniks_tree.specs.Parts.{Fits, Placed};
 ghost use Rattle.coniks_directory.specs.Chain.{head_at};
 ghost use Rattle.coniks_directory.specs.Installed.{HasRoom, IsAttached, IsEntered, IsSigned};
@@ -17,7 +17,7 @@ use crate::state::DirectoryState;
 use crate::update::{InstallFault, Prepared};
 use coniks_chain::{Body, Entry, Sign};
 use coniks_proof::{Digest, Hash32, Head};
-use coniks_shared::{Board, Publisher};
+use coniks_threads::{Board, Publisher};
 use coniks_tree::OutOfMemory;
 
 /// Checks that an update comes next under a number. There were `base` epochs when it was prepared.

@@ -30,7 +30,7 @@ ghost use Rattle.coniks_proof.specs.Registry.{Registry, entries_of, key_of};
 ghost use Rattle.coniks_proof.specs.Paths.{IsPath};
 ghost use Rattle.coniks_proof.specs.declared.paths.Proof.{Proof};
 ghost use Rattle.coniks_proof.specs.declared.values.Head.{Head};
-ghost use Rattle.coniks_shared.specs.Lists.{Begins, last_of};
+ghost use Rattle.coniks_threads.specs.Lists.{Begins, last_of};
 
 use coniks_proof::laws::roots_bind;
 

@@ -9,7 +9,7 @@
 //! `prepare_with` rotates the nonce, and rehashes the tree under the new nonce. `Restoring` restores a directory from an
 //! entry and the bindings at its epoch. It continues the same chain, without the epochs before.
 //!
-//! You provide the hash, the index source and the signer. The publisher is that of a board (`coniks_shared`):
+//! You provide the hash, the index source and the signer. The publisher is that of a board (`coniks_threads`):
 //!
 //! ```rust
 //! let mut signer = Signer::new(DemoKey { key: [8; 32] });

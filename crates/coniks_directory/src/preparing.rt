@@ -23,8 +23,8 @@ use crate::source::IndexSource;
 use crate::state::DirectoryState;
 use crate::update::Prepared;
 use coniks_proof::{Hash32, Nonce};
+use coniks_threads::{Gate, Parallelism};
 use coniks_tree::{OutOfMemory, Part, Root};
-use coniks_work::{Gate, Parallelism};
 use std::alloc::Global;
 use std::thread::Threads;
 
@@ -90,7 +90,7 @@ pub(crate) fn part_of<H: Hash32 + Sync, X: IndexSource, G: Gate + Sync, R: Threa
     let Origin { alloc, held, .. } = *origin;
     let changes = changes_of(alloc, held.tree.records(), pending)?;
     let growth = growth_of(alloc, &held.tree, root, is_anew, changes)?;
-    Ok(coniks_work::build(
+    Ok(coniks_threads::build(
         build.rt,
         alloc,
         origin.h,

@@ -1,5 +1,5 @@
-//! Tests of `coniks_shared`, `coniks_work`, `coniks_directory` and `coniks_tool` through their public calls, in a separate
-//! crate so that each library is proved once. They test what no contract says.
+//! Tests of `coniks_threads`, `coniks_directory` and `coniks_tool` through their public calls, in a separate crate so that
+//! each library is proved once. They test what no contract says.
 #![tactic(auto)]
 
 #[cfg(test)]

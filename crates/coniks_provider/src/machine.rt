@@ -29,7 +29,7 @@ use coniks_programs::members::{
 use coniks_programs::printing::Member;
 use coniks_programs::refusal::Refusal;
 use coniks_proof::MAX_OPERATIONS;
-use coniks_work::Parallelism;
+use coniks_threads::Parallelism;
 use serde_json::Value;
 use std::alloc::{AllocError, Global};
 use std::thread::Threads;

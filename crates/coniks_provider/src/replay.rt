@@ -26,7 +26,7 @@ use coniks_programs::entries::read_entry;
 use coniks_programs::fault::{RunFault, of_lines};
 use coniks_programs::members::{digits32, read_object};
 use coniks_programs::printable::Printable;
-use coniks_work::Parallelism;
+use coniks_threads::Parallelism;
 use kind::{Kind, kind_in};
 use log::{Log, after_first, check_named, check_skipped, is_below, log_after};
 use refusal::{Named, Why, why_object};

@@ -14,7 +14,7 @@ use coniks_chain::Entry;
 use coniks_directory::{OwnedBindings, RestoreFault, Restoring, SuppliedIndices};
 use coniks_programs::refusal::{Refusal, batch_refusal};
 use coniks_proof::{MAX_OPERATIONS, Sha256Hash};
-use coniks_work::{Open, Parallelism};
+use coniks_threads::{Open, Parallelism};
 use std::alloc::{AllocError, Global};
 use std::thread::Threads;
 

@@ -19,7 +19,7 @@ use coniks_directory::{
 };
 use coniks_programs::refusal::{Refusal, batch_refusal};
 use coniks_proof::{Index, Nonce, Sha256Hash};
-use coniks_work::{Open, Parallelism};
+use coniks_threads::{Open, Parallelism};
 use std::alloc::{AllocError, Global};
 use std::thread::Threads;
 

@@ -16,7 +16,7 @@ use crate::restoring::Restore;
 use crate::service::Service;
 use coniks_chain::Entry;
 use coniks_programs::refusal::Refusal;
-use coniks_work::Parallelism;
+use coniks_threads::Parallelism;
 use std::alloc::{AllocError, Global};
 use std::marker::Model;
 use std::thread::Threads;

@@ -9,7 +9,7 @@ use Rattle.coniks_chain.specs.declared.entry.Entry.{Entry}
 use Rattle.coniks_directory.specs.Chain.{IsChainOf, body_of}
 use Rattle.coniks_directory.specs.History.{Shown}
 use Rattle.coniks_proof.specs.Sha256.{sha256}
-use Rattle.coniks_shared.specs.Lists.{last_of}
+use Rattle.coniks_threads.specs.Lists.{last_of}
 use Rattle.coniks_tool.specs.Chains.{chain_after, chain_of, entry_after, next_entry}
 use Rattle.coniks_tool.specs.Demo.{demo_index}
 use Rattle.coniks_tool.specs.Seal.{is_seal, seal_of}

@@ -12,7 +12,7 @@ use Rattle.coniks_chain.specs.declared.auditor.AuditorState.{AuditorState}
 use Rattle.coniks_chain.specs.Entries.{link_preimage}
 use Rattle.coniks_chain.specs.declared.entry.Entry.{Entry}
 use Rattle.coniks_directory.specs.Batches.{IsAccepted, operations}
-use Rattle.coniks_work.specs.Parallel.{AreWorkers}
+use Rattle.coniks_threads.specs.Parallel.{AreWorkers}
 use Rattle.coniks_directory.specs.Chain.{IsChainOf, head_at, heads_of}
 use Rattle.coniks_directory.specs.History.{Shown, latest_epoch, latest_registry}
 use Rattle.coniks_directory.specs.Installs.{IsCommitResult}
@@ -24,7 +24,7 @@ use Rattle.coniks_directory.specs.declared.batch.Op.{Op}
 use Rattle.coniks_directory.specs.declared.update.CommitFault.{CommitFault}
 use Rattle.coniks_directory.specs.declared.update.CommitFault.TheVariants.{Batch as OfBatch, Install}
 use Rattle.coniks_directory.specs.declared.update.InstallFault.TheVariants as install
-use Rattle.coniks_work.specs.declared.jobs.TheConstants.{MAX_DEPTH}
+use Rattle.coniks_threads.specs.declared.jobs.TheConstants.{MAX_DEPTH}
 use Rattle.coniks_tool.specs.Demo.{demo_index}
 use Rattle.coniks_programs.specs.Refusals.{Refusal, epoch_not_later}
 use Rattle.coniks_tool.specs.Refusals.{IsRefusedBy, refusal}

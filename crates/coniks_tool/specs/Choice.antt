@@ -6,7 +6,7 @@ use Rattle.std.specs.Str.{bytes_eq}
 use Rattle.coniks_proof.specs.Octets.{Octets}
 use Rattle.clap.specs.Walk.{byte_or_zero}
 use Rattle.clap.specs.Words.{Row, first_of}
-use Rattle.coniks_work.specs.Parallel.{AreWithinLimits}
+use Rattle.coniks_threads.specs.Parallel.{AreWithinLimits}
 use Rattle.hex.specs.Hex.{decode_sized}
 use Rattle.coniks_tool.specs.Expectations.{expectation_in}
 use Rattle.coniks_tool.specs.declared.cli.choice.Settings.{Settings}

@@ -8,7 +8,7 @@ use Rattle.coniks_directory.specs.Batches.{operations}
 use Rattle.coniks_directory.specs.History.{Shown, latest_nonce, latest_registry, latest_version}
 use Rattle.coniks_directory.specs.Runs.{Batch, shown_by}
 use Rattle.coniks_directory.specs.State.{State as Directory, history_of}
-use Rattle.coniks_shared.specs.Boards.{Boarded, BoardEnd}
+use Rattle.coniks_threads.specs.Boards.{Boarded, BoardEnd}
 use Rattle.coniks_tool.specs.Script.{ScriptDirectory, ScriptState}
 use Rattle.coniks_tool.specs.Seal.{is_seal}
 use Rattle.coniks_tool.specs.declared.run.batch.Batch.{Batch as BatchRead}

@@ -5,8 +5,8 @@ ghost use Rattle.std.specs.Prelude.{length, nat_lt, ℕ};
 use anyhow::Result;
 use coniks_lines::{LineMachine, MemoryIn, MemoryOut, run_lines};
 use coniks_provider::run_provider;
+use coniks_threads::Parallelism;
 use coniks_tool::run_script;
-use coniks_work::Parallelism;
 use std::alloc::AllocError;
 use std::thread::Threads;
 

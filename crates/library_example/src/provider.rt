@@ -7,8 +7,7 @@ use anyhow::{Result, bail};
 use coniks_chain::Signer;
 use coniks_directory::{Directory, Op, OpKind};
 use coniks_proof::{Bytes, Nonce, Opening};
-use coniks_shared::Board;
-use coniks_work::Open;
+use coniks_threads::{Board, Open};
 use std::alloc::{AllocError, Global};
 use std::thread::Threads;
 

@@ -6,7 +6,7 @@ use anyhow::{Result, bail};
 use coniks_chain::{Entry, SignatureSource};
 use coniks_directory::{Directory, IndexSource, OwnedBatch, SuppliedIndices};
 use coniks_proof::{Answer, check};
-use coniks_work::{Open, Parallelism};
+use coniks_threads::{Open, Parallelism};
 use std::thread::Threads;
 
 /// Registers two names at the indices that come with their batch, and looks up a third one, whose index isn't stored.

@@ -10,8 +10,8 @@ use crate::provider::{INDEX, NONCE};
 use anyhow::Result;
 use coniks_directory::IndexSource;
 use coniks_proof::{Binding, Bytes, Opening, Prefix, commit_hash};
+use coniks_threads::{Open, build};
 use coniks_tree::{Change, Part, Record, RecordNo, Root, Tree};
-use coniks_work::{Open, build};
 use std::alloc::{AllocError, Global};
 use std::thread::Threads;
 

@@ -28,7 +28,7 @@ use crate::supplied_batch::OwnedBindings;
 use crate::supplied_bindings::{judge_bindings, supply_since};
 use coniks_chain::Entry;
 use coniks_proof::Hash32;
-use coniks_work::{Gate, Parallelism};
+use coniks_threads::{Gate, Parallelism};
 use std::alloc::Global;
 use std::marker::Model;
 use std::thread::Threads;

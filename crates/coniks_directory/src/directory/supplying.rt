@@ -24,7 +24,7 @@ use crate::supplied_batch::{BatchIndices, OwnedBatch, SuppliedBatchFault, earlie
 use crate::update::{InstallFault, Prepared};
 use coniks_chain::{Entry, link};
 use coniks_proof::{Digest, Hash32, Index, Nonce, Sha256Hash};
-use coniks_work::{Gate, Parallelism};
+use coniks_threads::{Gate, Parallelism};
 use std::alloc::AllocError;
 use std::thread::Threads;
 

@@ -13,7 +13,7 @@ use coniks_directory::{
     BatchFault, CommitFault, Directory, IndexSource, InstallFault, Op, OpKind, Prepared,
 };
 use coniks_proof::{Bytes, Hash32, Index, Sha256Hash};
-use coniks_shared::{Board, MAX_HEADS, Publisher};
+use coniks_threads::{Board, MAX_HEADS, Publisher};
 use std::alloc::{AllocError, Global};
 use std::process::Abort;
 use std::thread::Threads;

@@ -23,8 +23,7 @@ use coniks_directory::{
     OwnedBatch, Prepared, SuppliedBatchFault, SuppliedIndices, SupplyFault,
 };
 use coniks_proof::{Hash32, Head, Index, Nonce, Sha256Hash};
-use coniks_shared::Publisher;
-use coniks_work::Parallelism;
+use coniks_threads::{Parallelism, Publisher};
 use std::alloc::Global;
 use std::process::Abort;
 use std::thread::Threads;

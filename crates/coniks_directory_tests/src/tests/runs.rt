@@ -28,8 +28,7 @@ use coniks_directory::{
     SupplyFault, SupplyIndex,
 };
 use coniks_proof::{Digest, Hash32, Index, Nonce, Proof, Sha256Hash};
-use coniks_shared::{Board, Publisher};
-use coniks_work::{Open, Parallelism};
+use coniks_threads::{Board, Open, Parallelism, Publisher};
 use std::process::Abort;
 use std::thread::Threads;
 

@@ -3,7 +3,7 @@
 ghost use Rattle.std.specs.Prelude.{◌≡◌, All};
 
 use coniks_proof::{Digest, Head};
-use coniks_shared::{Board, Claims, Drawer, NoSeat};
+use coniks_threads::{Board, Claims, Drawer, NoSeat};
 use std::alloc::Global;
 use std::process::Abort;
 use std::thread;

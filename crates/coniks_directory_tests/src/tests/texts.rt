@@ -4,8 +4,7 @@ use coniks_directory::{
     BatchFault, BindingsFault, CommitFault, InstallFault, LookupAtFault, LookupFault, OpFault,
     RestoreFault, SuppliedBatchFault, SupplyFault,
 };
-use coniks_shared::{BoardFull, NoBoard, NoClaims, NoSeat};
-use coniks_work::ParallelismFault;
+use coniks_threads::{BoardFull, NoBoard, NoClaims, NoSeat, ParallelismFault};
 use std::fmt::Display;
 use std::process::Abort;
 

@@ -8,7 +8,7 @@ use coniks_base_tests::{Meeting, Watch, watch_each, watches_of};
 use coniks_chain::link;
 use coniks_directory::Directory;
 use coniks_proof::{Head, Sha256Hash};
-use coniks_shared::Board;
+use coniks_threads::Board;
 use std::process::Abort;
 use std::sync::atomic::{AtomicU64, Ordering};
 use std::thread;

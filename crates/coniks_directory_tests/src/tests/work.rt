@@ -1,14 +1,14 @@
 //! Workers that do the jobs of one batch.
 
 ghost use Rattle.std.specs.Prelude.{◌≤◌};
-ghost use Rattle.coniks_work.specs.Limits.{deepest_cut, most_workers};
+ghost use Rattle.coniks_threads.specs.Limits.{deepest_cut, most_workers};
 
 use coniks_base_tests::{
     Bound, Meeting, NONCE, changes_to, digest, index_below, index_of, records_of,
 };
 use coniks_proof::{Digest, Hash32, Sha256Hash};
+use coniks_threads::{Gate, build, split};
 use coniks_tree::{Change, OutOfMemory, Tree};
-use coniks_work::{Gate, build, split};
 use std::alloc::{AllocError, Global};
 use std::sync::atomic::{AtomicU64, Ordering};
 use std::thread::Threads;

@@ -7,7 +7,7 @@ ghost use Rattle.coniks_provider.specs.Command.{depth_rule, provider, replay_rul
 
 use clap::{Arg, ArgAction, Command};
 use coniks_programs::cli::with_option;
-use coniks_work::{MAX_DEPTH, MAX_WORKERS};
+use coniks_threads::{MAX_DEPTH, MAX_WORKERS};
 use std::alloc::{AllocError, Global};
 
 /// The text at the end of the help.

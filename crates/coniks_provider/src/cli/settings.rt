@@ -9,7 +9,7 @@ ghost use Rattle.coniks_provider.specs.Command.{has_flag, is_replay, provider};
 use crate::cli::command::command;
 use clap::ArgMatches;
 use coniks_programs::cli::{WordsFault, refused};
-use coniks_work::{MAX_DEPTH, Parallelism};
+use coniks_threads::{MAX_DEPTH, Parallelism};
 use std::alloc::Global;
 use std::convert::AsStr;
 use std::thread::{self, Threads};

@@ -5,7 +5,7 @@
 pub enum Settings<'a> {
     /// Answer the lines of the standard input.
     ///
-    /// Epochs are built by this number of workers at this split depth, both within the limits of `coniks_work::build`.
+    /// Epochs are built by this number of workers at this split depth, both within the limits of `coniks_threads::build`.
     Run {
         workers: usize,
         depth: usize,

@@ -10,7 +10,7 @@ use crate::cli::help;
 use clap::builder::ValueParser;
 use clap::{Arg, Command};
 use coniks_programs::cli::{with_below, with_option};
-use coniks_work::{MAX_DEPTH, MAX_WORKERS};
+use coniks_threads::{MAX_DEPTH, MAX_WORKERS};
 use std::alloc::{AllocError, Global};
 
 /// Returns a command of this name, with the first and the last text of its help.

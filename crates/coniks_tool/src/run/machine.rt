@@ -2,9 +2,9 @@
 
 ghost use Rattle.std.specs.Prelude.{◌≡◌, ◌<◌, ◌≤◌, ◌+◌, ◌^◌, None, Some, IfOk, OnOk, codes};
 ghost use Rattle.serde_json.specs.View.{view};
-ghost use Rattle.coniks_work.specs.Parallel.{AreWorkers};
+ghost use Rattle.coniks_threads.specs.Parallel.{AreWorkers};
 ghost use Rattle.coniks_lines.specs.Runs.{IsRunOf, streams};
-ghost use Rattle.coniks_work.specs.declared.jobs.TheConstants.{MAX_DEPTH};
+ghost use Rattle.coniks_threads.specs.declared.jobs.TheConstants.{MAX_DEPTH};
 ghost use Rattle.coniks_programs.specs.Faults.{FailsWithBoard};
 ghost use Rattle.coniks_programs.specs.Members.{array_in, digits_in, if_there, number_in, text_in};
 ghost use Rattle.coniks_programs.specs.Turns.{Takes};
@@ -20,7 +20,7 @@ use coniks_programs::members::{array, digits32, digits32_if_there, number, read_
 use coniks_programs::operations::read_ops;
 use coniks_programs::printing::Member;
 use coniks_programs::refusal::Refusal;
-use coniks_work::Parallelism;
+use coniks_threads::Parallelism;
 use serde_json::Value;
 use std::alloc::{AllocError, Global};
 use std::thread::Threads;
@@ -141,7 +141,7 @@ impl<'r, T: Threads + Sync> LineMachine for Script<'r, T> {
 ///
 /// Answers each line with one line and one flush, until a read returns 0. Returns whether each line was accepted.
 /// `workers` worker threads build the epochs, at the split depth `depth` in bits, both within the limits of
-/// `coniks_work::build`. No answer depends on either. The call can wait, because it joins its worker threads.
+/// `coniks_threads::build`. No answer depends on either. The call can wait, because it joins its worker threads.
 ///
 /// # Errors
 ///

@@ -1,13 +1,11 @@
 //! The parameters of a run.
 
 ghost use Rattle.std.specs.Prelude.{◌≡◌, ◌≤◌, IfOk};
-ghost use Rattle.coniks_shared.specs.Limits.{most_heads};
-ghost use Rattle.coniks_work.specs.Limits.{most_workers};
+ghost use Rattle.coniks_threads.specs.Limits.{most_heads, most_workers};
 
 use anyhow::{Context, Result, ensure};
 use coniks_proof::MAX_OPERATIONS;
-use coniks_shared::MAX_HEADS;
-use coniks_work::MAX_WORKERS;
+use coniks_threads::{MAX_HEADS, MAX_WORKERS};
 
 /// The numbers of epochs, names in each, workers, watchers, readers, and lookups of each reader in an epoch.
 #[derive(Drop)]

@@ -8,9 +8,8 @@ use coniks_chain::{Entry, Sign};
 use coniks_directory::laws::updates_stay;
 use coniks_directory::{Directory, IndexSource, Op, Prepared};
 use coniks_proof::{Hash32, Nonce, Sha256Hash};
-use coniks_shared::{Board, Publisher};
+use coniks_threads::{Board, Open, Publisher};
 use coniks_tool::{DemoIndex, DemoSeal};
-use coniks_work::Open;
 use std::alloc::Global;
 use std::thread::Threads;
 

@@ -10,7 +10,7 @@ use anyhow::Result;
 use coniks_base_tests::{Watch, watch_each, watches_of};
 use coniks_chain::Entry;
 use coniks_directory::Op;
-use coniks_shared::Board;
+use coniks_threads::Board;
 use std::alloc::{AllocError, Global};
 use std::sync::atomic::{AtomicU64, Ordering};
 use std::thread;

@@ -4,7 +4,7 @@ ghost use Rattle.std.specs.Prelude.{◌<◌};
 
 use anyhow::{Context, Result, ensure};
 use coniks_proof::MAX_OPERATIONS;
-use coniks_work::Parallelism;
+use coniks_threads::Parallelism;
 
 /// A number of indices, registered in batches.
 #[derive(Drop)]

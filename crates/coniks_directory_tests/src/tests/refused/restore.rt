@@ -10,7 +10,7 @@ use coniks_directory::{
     BatchFault, BindingsFault, IndexSource, OwnedBindings, RestoreFault, Restoring, SuppliedIndices,
 };
 use coniks_proof::Sha256Hash;
-use coniks_work::Parallelism;
+use coniks_threads::Parallelism;
 use std::alloc::Global;
 use std::process::Abort;
 use std::thread::Threads;

@@ -1,5 +1,5 @@
 use Rattle.std.proofs.Common.{◌≡◌, ◌+◌, ◌++◌, ◌∷◌, ◌∙◌, [], ap, length, refl, subst, sym}
-use Rattle.coniks_shared.specs.Boards.{BoardEnd}
+use Rattle.coniks_threads.specs.Boards.{BoardEnd}
 use Rattle.coniks_directory.proofs.Words.{Fits, IsNext, IsUpdate, Leaves, State, before_at, body_of, shown_after, state_of}
 use Rattle.coniks_directory.specs.Updates.{nodes_added}
 use Rattle.coniks_directory.proofs.FreshLemmas.{fresh}

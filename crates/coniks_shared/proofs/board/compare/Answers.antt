@@ -1,6 +1,0 @@
-use Rattle.std.proofs.Common.{rules}
-use Rattle.coniks_shared.proofs.BoardSteps.{compares}
-use Rattle.coniks_shared.proofs.board.compare.Goals as goal
-
-pub load-requires : goal.load-requires
-load-requires c = (search rules, search rules, compares _ _ _ c.args.seat.now.me c.requires.publisher)

@@ -1,6 +1,0 @@
-use Rattle.std.proofs.Common.{rules}
-use Rattle.coniks_shared.proofs.BoardSteps.{tells}
-use Rattle.coniks_shared.proofs.board.tell.Goals as goal
-
-pub join_seat-requires : goal.join_seat-requires
-join_seat-requires c = (search rules, search rules, search rules, search rules, tells _ _ c.args.seat.now.me.0 _ _)

@@ -1,0 +1,16 @@
+pub mod Blocks
+pub mod BoardRule
+pub mod Boards
+pub mod ClaimsRule
+pub mod Drawers
+pub mod Draws
+pub mod Gathered
+pub mod Grown
+pub mod HeadWords
+pub mod Jobs
+pub mod Limits
+pub mod Lists
+pub mod Parallel
+pub mod Places
+pub mod Pools
+pub mod Sides

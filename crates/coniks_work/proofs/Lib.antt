@@ -1,5 +1,0 @@
-mod PoolLemmas
-mod GrownLemmas
-mod JobLemmas
-mod PlaceLemmas
-mod SideLemmas

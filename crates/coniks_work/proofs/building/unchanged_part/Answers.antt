@@ -1,6 +1,0 @@
-use Rattle.std.proofs.Common.{ap, sym}
-use Rattle.coniks_work.specs.Grown.{unchanged}
-use Rattle.coniks_work.proofs.building.unchanged_part.Goals as goal
-
-pub returns-in-Some : goal.returns-in-Some
-returns-in-Some c = sym (ap unchanged c.in-Some.is)

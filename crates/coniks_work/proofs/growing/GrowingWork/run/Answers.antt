@@ -1,5 +1,0 @@
-use Rattle.std.proofs.Common.{rules}
-use Rattle.coniks_work.proofs.growing.GrowingWork.run.Goals as goal
-
-pub returns : goal.returns
-returns g c = search rules
