@@ -9,14 +9,14 @@ use Rattle.coniks_client.specs.Owner.{IsShown, IsWatched, Scheme}
 use Rattle.coniks_client.specs.declared.changes.Change.{Change}
 use Rattle.coniks_client.specs.declared.kept.Kept.{Kept}
 use Rattle.coniks_client.specs.declared.watching.Watch.{Watch}
-use Rattle.coniks_histories.proofs.Lemmas.{shown-shown, told-watched}
-use Rattle.coniks_histories.specs.Accepting.{IsAccepted, IsNotAccepted}
-use Rattle.coniks_histories.specs.Checking.{answer_in}
-use Rattle.coniks_histories.specs.Histories.{vrf_part}
-use Rattle.coniks_histories.specs.Marking.{AreTold}
-use Rattle.coniks_histories.specs.declared.faults.AcceptFault.{AcceptFault}
-use Rattle.coniks_histories.specs.declared.faults.AcceptFault.TheVariants.{NoHistory, VrfProof, NoRoom, UnknownEpoch, Check}
-use Rattle.coniks_histories.specs.declared.shown.ShownStep.{ShownStep}
+use Rattle.coniks_client.proofs.Lemmas.{shown-shown, told-watched}
+use Rattle.coniks_client.specs.HistoryAccepting.{IsAccepted, IsNotAccepted}
+use Rattle.coniks_client.specs.HistoryChecking.{answer_in}
+use Rattle.coniks_client.specs.Histories.{vrf_part}
+use Rattle.coniks_client.specs.HistoryMarking.{AreTold}
+use Rattle.coniks_client.specs.declared.histories.faults.AcceptFault.{AcceptFault}
+use Rattle.coniks_client.specs.declared.histories.faults.AcceptFault.TheVariants.{NoHistory, VrfProof, NoRoom, UnknownEpoch, Check}
+use Rattle.coniks_client.specs.declared.histories.shown.ShownStep.{ShownStep}
 use Rattle.coniks_c.proofs.ToldLemmas.{At}
 use Rattle.coniks_c.specs.CoreTold.{IsIndexedBy}
 

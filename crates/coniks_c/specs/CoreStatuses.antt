@@ -23,10 +23,10 @@ use Rattle.coniks_quorum.specs.declared.relying.Reliance.{Reliance}
 use Rattle.coniks_quorum.specs.declared.relying.Reliance.TheVariants.{ReliedOn, Unconfirmed}
 use Rattle.coniks_quorum.specs.declared.vouching.StartFault.{StartFault}
 use Rattle.coniks_quorum.specs.declared.vouching.StartFault.TheVariants as start
-use Rattle.coniks_histories.specs.declared.faults.AcceptFault.{AcceptFault}
-use Rattle.coniks_histories.specs.declared.faults.AcceptFault.TheVariants as accept
-use Rattle.coniks_histories.specs.declared.faults.HistoryFault.{HistoryFault}
-use Rattle.coniks_histories.specs.declared.faults.HistoryFault.TheVariants as history
+use Rattle.coniks_client.specs.declared.histories.faults.AcceptFault.{AcceptFault}
+use Rattle.coniks_client.specs.declared.histories.faults.AcceptFault.TheVariants as accept
+use Rattle.coniks_client.specs.declared.histories.faults.HistoryFault.{HistoryFault}
+use Rattle.coniks_client.specs.declared.histories.faults.HistoryFault.TheVariants as history
 use Rattle.coniks_states.specs.declared.reading.StateFault.{StateFault}
 use Rattle.coniks_states.specs.declared.reading.StateFault.TheVariants as state
 use Rattle.coniks_c.specs.Statuses.{number_of_kind}

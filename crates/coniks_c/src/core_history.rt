@@ -6,13 +6,13 @@ ghost use Rattle.coniks_client.specs.Changes.{wanted};
 ghost use Rattle.coniks_client.specs.Kept.{IsChain, entry_in};
 ghost use Rattle.coniks_client.specs.Owner.{IsShown, IsWatched, Scheme};
 ghost use Rattle.coniks_client.specs.declared.kept.Kept.{Kept as KeptOne};
-ghost use Rattle.coniks_histories.specs.Accepting.{IsAccepted, IsNotAccepted};
-ghost use Rattle.coniks_histories.specs.Checking.{answer_in};
-ghost use Rattle.coniks_histories.specs.Histories.{IsOpened, IsUnopened, vrf_part};
-ghost use Rattle.coniks_histories.specs.Marking.{AreTold, IsNumbered};
-ghost use Rattle.coniks_histories.specs.declared.faults.AcceptFault.{AcceptFault as Fault};
-ghost use Rattle.coniks_histories.specs.declared.faults.HistoryFault.{HistoryFault as Cut};
-ghost use Rattle.coniks_histories.specs.declared.shown.ShownStep.{ShownStep as ShownOne};
+ghost use Rattle.coniks_client.specs.HistoryAccepting.{IsAccepted, IsNotAccepted};
+ghost use Rattle.coniks_client.specs.HistoryChecking.{answer_in};
+ghost use Rattle.coniks_client.specs.Histories.{IsOpened, IsUnopened, vrf_part};
+ghost use Rattle.coniks_client.specs.HistoryMarking.{AreTold, IsNumbered};
+ghost use Rattle.coniks_client.specs.declared.histories.faults.AcceptFault.{AcceptFault as Fault};
+ghost use Rattle.coniks_client.specs.declared.histories.faults.HistoryFault.{HistoryFault as Cut};
+ghost use Rattle.coniks_client.specs.declared.histories.shown.ShownStep.{ShownStep as ShownOne};
 ghost use Rattle.coniks_c.specs.Checked.{part};
 ghost use Rattle.coniks_c.specs.CoreStatuses.{accept_status, history_status};
 ghost use Rattle.coniks_c.specs.CoreTold.{IsIndexedBy, watch_in};
@@ -20,10 +20,10 @@ ghost use Rattle.coniks_c.specs.CoreTold.{IsIndexedBy, watch_in};
 use crate::core_status::{CATCH_UP_LENGTH, accept_status, history_status};
 use crate::core_values::{RawVerdicts, RawWatch, ToldIndex};
 use crate::status::GOOD;
-use coniks_client::{Change, Kept};
-use coniks_histories::{
+use coniks_client::histories::{
     AskingHistory, HistoryVerifier, ShownStep, accept, history_parts, read_catch_up,
 };
+use coniks_client::{Change, Kept};
 use coniks_proof::{Index, Sha256Hash};
 
 /// What the caller has to verify of a history, as a part of it.

@@ -6,10 +6,10 @@ ghost use Rattle.coniks_c.specs.CoreStatuses.{accept_status, age_status, convict
 use crate::core_values::RawWhy;
 use crate::status::{ENTRY_LENGTH, GOOD, audit_status, check_status, kind_number, wire_status};
 use coniks_chain::Evidence;
+use coniks_client::histories::{AcceptFault, HistoryFault};
 use coniks_client::{
     AgeFault, Conviction, EntryFault, ExpectFault, FeedFault, LookupFault, ReplyFault,
 };
-use coniks_histories::{AcceptFault, HistoryFault};
 use coniks_quorum::relying::Reliance;
 use coniks_quorum::vouching::StartFault;
 use coniks_states::StateFault;

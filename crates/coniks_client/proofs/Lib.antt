@@ -1,15 +1,26 @@
 mod AcceptLemmas
 mod AgainLemmas
+mod CatchUpLemmas
 mod ChangeLemmas
 mod EndLemmas
 mod FeedingLemmas
+mod HistoryAcceptLemmas
+mod HistoryCheckLemmas
+mod HistoryEndLemmas
+mod HistoryFormLemmas
+mod HistoryLemmas
+mod HistoryNumberLemmas
+mod HistoryReadingLemmas
+mod HistoryTellLemmas
 mod HonestLemmas
 pub mod Lemmas
+mod MapLemmas
 mod OwnerLemmas
 mod PartLemmas
 mod RenumberLemmas
 mod RunLemmas
 mod ScanLemmas
+mod SiblingLemmas
 mod StepLemmas
 mod ToldLemmas
 mod WatchLemmas

@@ -9,6 +9,7 @@
 //! |---|---|
 //! | accept an entry | [`feed`], and append what it returns, or put it in the place of the latest kept epoch |
 //! | look a name up | [`look_up`] |
+//! | accept a history, or the entries of a catch-up | [`histories::accept`], [`histories::read_catch_up`] |
 //! | watch a name | [`begin_watch`]; later [`expect`] for a change of its key, [`settle`] for changes that are over |
 //! | compare an auditor's head | [`compare`] |
 //! | find what convicts with an entry of somebody else | [`signed`], then [`evidence_of`] |
@@ -20,6 +21,7 @@ pub mod changes;
 pub mod comparing;
 pub mod expecting;
 pub mod feeding;
+pub mod histories;
 pub mod kept;
 pub mod laws;
 pub mod lookups;

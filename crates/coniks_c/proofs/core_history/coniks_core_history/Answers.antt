@@ -1,8 +1,8 @@
 use Rattle.std.proofs.Common.{◌≡◌, ◌<◌, ℕ, Option, Some, length, subst}
 use Rattle.std.specs.List.{slice_get}
 use Rattle.coniks_client.specs.declared.watching.Watch.{Watch}
-use Rattle.coniks_histories.specs.Marking.{AreTold, IsNumbered}
-use Rattle.coniks_histories.specs.declared.shown.ShownStep.{ShownStep}
+use Rattle.coniks_client.specs.HistoryMarking.{AreTold, IsNumbered}
+use Rattle.coniks_client.specs.declared.histories.shown.ShownStep.{ShownStep}
 use Rattle.coniks_c.specs.CoreTold.{watch_in}
 use Rattle.coniks_c.proofs.HistoryLemmas.{accepted-alike, accepted-shown, accepted-watched, not-accepted-alike}
 use Rattle.coniks_c.proofs.core_history.coniks_core_history.Goals as goal

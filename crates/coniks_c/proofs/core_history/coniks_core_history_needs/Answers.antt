@@ -1,7 +1,7 @@
 use Rattle.std.proofs.Common.{◌∙◌, ℕ, ap, drop, length, take}
 use Rattle.std.proofs.lemmas.List.{length-take, take_min}
 use Rattle.coniks_proof.specs.Wire.{short_length}
-use Rattle.coniks_histories.specs.Histories.{after_version}
+use Rattle.coniks_client.specs.Histories.{after_version}
 use Rattle.coniks_c.proofs.HistoryLemmas.{history-vrf_start}
 use Rattle.coniks_c.proofs.core_history.coniks_core_history_needs.Goals as goal
 

@@ -1,2 +1,0 @@
--- The lemmas that proofs of other crates may cite; all others are this crate's own.
-pub use Rattle.coniks_histories.proofs.TellLemmas.{shown-shown, told-watched}

@@ -1,6 +1,0 @@
-use Rattle.std.proofs.Common.{◌≡◌, ◌≤◌}
-use Rattle.coniks_histories.specs.Maps.{rank}
-use Rattle.coniks_histories.proofs.maps.rank.Given as goal
-
-abbrev pub invariant-loop-k : goal.invariant-loop-k
-invariant-loop-k l = record { count_is : l.count ≡ rank l.map l.k; small : l.count ≤ l.k }

@@ -1,7 +1,0 @@
-use Rattle.std.proofs.Common.{◌≡◌, take}
-use Rattle.coniks_histories.specs.Maps.{rank}
-use Rattle.coniks_histories.specs.Siblings.{AreNew}
-use Rattle.coniks_histories.proofs.siblings.are_repeated.Given as goal
-
-abbrev pub invariant-loop-i : goal.invariant-loop-i
-invariant-loop-i l = record { taken : l.taken ≡ rank l.map l.i; new : AreNew (take l.before l.siblings) l.map l.i l.sent }
