@@ -17,16 +17,16 @@ use Rattle.coniks_client.specs.declared.changes.Change.{Change}
 use Rattle.coniks_client.specs.declared.kept.Kept.{Kept}
 use Rattle.coniks_client.specs.declared.watching.Watch.{Watch}
 use Rattle.coniks_quorum.specs.declared.alarms.Alarm.{Alarm}
-use Rattle.coniks_states.specs.Forms.{IsKept, IsSizedWatch, IsStateOf}
-use Rattle.coniks_states.specs.Laws.{IsMadeOf, PartsLaw, WatchedLaw}
-use Rattle.coniks_states.specs.Restoring.{AreVerified}
-use Rattle.coniks_states.specs.Saved.{SavedState, SavedWatch, alarm_bytes, alarm_from, body_bytes, counted_bytes, kept_bytes, kept_from, mark_bytes, mark_from, saved_change, watch_bytes}
-use Rattle.coniks_states.specs.Says.{Says, SaysWatch, SaysWatched}
-use Rattle.coniks_states.specs.declared.client.Client.{Client}
-use Rattle.coniks_states.specs.declared.reading.StateFault.{StateFault}
-use Rattle.coniks_states.specs.declared.reading.StateFault.TheVariants.{StateLength, StateVersion, StateDamaged, StatePolicy, StateForm}
-use Rattle.coniks_states.specs.declared.state.State.{State}
-use Rattle.coniks_states.specs.declared.state.Watched.{Watched}
+use Rattle.coniks_quorum.specs.StateForms.{IsKept, IsSizedWatch, IsStateOf}
+use Rattle.coniks_quorum.specs.StateLaws.{IsMadeOf, PartsLaw, WatchedLaw}
+use Rattle.coniks_quorum.specs.Restoring.{AreVerified}
+use Rattle.coniks_quorum.specs.Saved.{SavedState, SavedWatch, alarm_bytes, alarm_from, body_bytes, counted_bytes, kept_bytes, kept_from, mark_bytes, mark_from, saved_change, watch_bytes}
+use Rattle.coniks_quorum.specs.Says.{Says, SaysWatch, SaysWatched}
+use Rattle.coniks_quorum.specs.declared.states.client.Client.{Client}
+use Rattle.coniks_quorum.specs.declared.states.reading.StateFault.{StateFault}
+use Rattle.coniks_quorum.specs.declared.states.reading.StateFault.TheVariants.{StateLength, StateVersion, StateDamaged, StatePolicy, StateForm}
+use Rattle.coniks_quorum.specs.declared.states.state.State.{State}
+use Rattle.coniks_quorum.specs.declared.states.state.Watched.{Watched}
 use Rattle.coniks_c.specs.Checked.{part}
 use Rattle.coniks_c.specs.CoreStatuses.{state_status}
 use Rattle.coniks_c.specs.CoreStates.{AreCopied, AreToldBy, AreValid, HasRoomFor, IsNoChain, IsRefusedChain, IsTaken, IsUnread, changes_in, client_state, count_in, told_at}

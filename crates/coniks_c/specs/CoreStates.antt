@@ -8,15 +8,15 @@ use Rattle.coniks_client.specs.declared.changes.Change.{Change}
 use Rattle.coniks_client.specs.declared.kept.Kept.{Kept}
 use Rattle.coniks_client.specs.declared.watching.Watch.{Watch}
 use Rattle.coniks_quorum.specs.declared.alarms.Alarm.{Alarm}
-use Rattle.coniks_states.specs.Forms.{AreSized, IsStateOf}
-use Rattle.coniks_states.specs.Reading.{IsNoState}
-use Rattle.coniks_states.specs.Restoring.{AreVerified, IsFirstBad, IsGoodAt}
-use Rattle.coniks_states.specs.Saved.{SavedChange, SavedState, SavedWatch, kept_from, saved_change, saved_watch}
-use Rattle.coniks_states.specs.Says.{AreMarksAfter, Says, SaysWatch}
-use Rattle.coniks_states.specs.Writing.{HasState, size_of}
-use Rattle.coniks_states.specs.declared.reading.StateFault.{StateFault}
-use Rattle.coniks_states.specs.declared.state.State.{State}
-use Rattle.coniks_states.specs.declared.state.Watched.{Watched}
+use Rattle.coniks_quorum.specs.StateForms.{AreSized, IsStateOf}
+use Rattle.coniks_quorum.specs.StateReading.{IsNoState}
+use Rattle.coniks_quorum.specs.Restoring.{AreVerified, IsFirstBad, IsGoodAt}
+use Rattle.coniks_quorum.specs.Saved.{SavedChange, SavedState, SavedWatch, kept_from, saved_change, saved_watch}
+use Rattle.coniks_quorum.specs.Says.{AreMarksAfter, Says, SaysWatch}
+use Rattle.coniks_quorum.specs.StateWriting.{HasState, size_of}
+use Rattle.coniks_quorum.specs.declared.states.reading.StateFault.{StateFault}
+use Rattle.coniks_quorum.specs.declared.states.state.State.{State}
+use Rattle.coniks_quorum.specs.declared.states.state.Watched.{Watched}
 use Rattle.coniks_c.specs.Checked.{part}
 use Rattle.coniks_c.specs.CoreStatuses.{state_status}
 use Rattle.coniks_c.specs.CoreTold.{watch_in}

@@ -27,8 +27,8 @@ use Rattle.coniks_client.specs.declared.histories.faults.AcceptFault.{AcceptFaul
 use Rattle.coniks_client.specs.declared.histories.faults.AcceptFault.TheVariants as accept
 use Rattle.coniks_client.specs.declared.histories.faults.HistoryFault.{HistoryFault}
 use Rattle.coniks_client.specs.declared.histories.faults.HistoryFault.TheVariants as history
-use Rattle.coniks_states.specs.declared.reading.StateFault.{StateFault}
-use Rattle.coniks_states.specs.declared.reading.StateFault.TheVariants as state
+use Rattle.coniks_quorum.specs.declared.states.reading.StateFault.{StateFault}
+use Rattle.coniks_quorum.specs.declared.states.reading.StateFault.TheVariants as state
 use Rattle.coniks_c.specs.Statuses.{number_of_kind}
 use Rattle.coniks_c.specs.declared.core_values.RawWhy.{RawWhy}
 

@@ -7,12 +7,12 @@ ghost use Rattle.coniks_proof.specs.Sha256.{sha256};
 ghost use Rattle.coniks_client.specs.Changes.{expected, wanted};
 ghost use Rattle.coniks_client.specs.Kept.{IsChain, verified_before};
 ghost use Rattle.coniks_client.specs.Owner.{IsBacked, IsWatched, Scheme};
-ghost use Rattle.coniks_states.specs.Forms.{AreBytesOf, IsStateOf};
-ghost use Rattle.coniks_states.specs.Reading.{IsNoState};
-ghost use Rattle.coniks_states.specs.Restoring.{AreVerified};
-ghost use Rattle.coniks_states.specs.Saved.{SavedState, alarm_from, kept_from, saved_state};
-ghost use Rattle.coniks_states.specs.Writing.{HasState, size_of};
-ghost use Rattle.coniks_states.specs.declared.reading.StateFault.{StateFault as Fault};
+ghost use Rattle.coniks_quorum.specs.StateForms.{AreBytesOf, IsStateOf};
+ghost use Rattle.coniks_quorum.specs.StateReading.{IsNoState};
+ghost use Rattle.coniks_quorum.specs.Restoring.{AreVerified};
+ghost use Rattle.coniks_quorum.specs.Saved.{SavedState, alarm_from, kept_from, saved_state};
+ghost use Rattle.coniks_quorum.specs.StateWriting.{HasState, size_of};
+ghost use Rattle.coniks_quorum.specs.declared.states.reading.StateFault.{StateFault as Fault};
 ghost use Rattle.coniks_c.specs.CoreStates.{AreCopied, AreNeeds, AreNotValid, AreToldBy, AreValid, HasNoState, HasRoomFor, IsNoChain, IsRead, IsRefusedChain, IsTaken, IsUnread, IsValidAt, count_in, saved_in};
 ghost use Rattle.coniks_c.specs.CoreStatuses.{state_status};
 ghost use Rattle.coniks_c.specs.CoreTold.{watch_in};
@@ -25,7 +25,9 @@ use crate::values::Bytes32;
 use coniks_client::{Change, Kept};
 use coniks_proof::Sha256Hash;
 use coniks_quorum::alarms::Alarm;
-use coniks_states::{Client, KEPT_BYTES, State, has_state, laws, read, restore, state_size, write};
+use coniks_quorum::states::{
+    Client, KEPT_BYTES, State, has_state, laws, read, restore, state_size, write,
+};
 
 /// The place of the first entry in a state.
 const FIRST_ENTRY: usize = 37;

@@ -11,8 +11,8 @@ use coniks_client::{
     AgeFault, Conviction, EntryFault, ExpectFault, FeedFault, LookupFault, ReplyFault,
 };
 use coniks_quorum::relying::Reliance;
+use coniks_quorum::states::StateFault;
 use coniks_quorum::vouching::StartFault;
-use coniks_states::StateFault;
 
 /// The number of a catch-up's bytes is not a multiple of 209.
 pub const CATCH_UP_LENGTH: u32 = 68;

@@ -7,5 +7,12 @@ pub mod Lost
 pub mod Marks
 pub mod Relying
 pub mod Reporting
+pub mod Restoring
+pub mod Saved
+pub mod Says
 pub mod Sights
+pub mod StateForms
+pub mod StateLaws
+pub mod StateReading
+pub mod StateWriting
 pub mod Vouching

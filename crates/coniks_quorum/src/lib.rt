@@ -1,4 +1,5 @@
-//! Confirms a client's chain by a quorum of auditors, and says what a client may rely on.
+//! Confirms a client's chain by a quorum of auditors, says what a client may rely on, and makes bytes of all that it keeps
+//! (`states`).
 //!
 //! A client names n auditors. At most f of them lie. The client compares each auditor's head with its own chain, and keeps the
 //! auditor's mark: the greatest epoch at which both were equal. A quorum confirms an epoch if that many marks reach it. Two
@@ -17,4 +18,5 @@ pub mod quorum;
 pub mod relying;
 pub mod reporting;
 pub mod sights;
+pub mod states;
 pub mod vouching;

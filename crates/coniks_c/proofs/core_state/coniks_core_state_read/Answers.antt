@@ -2,8 +2,8 @@ use Rattle.std.proofs.Common.{ℕ, List, length, map, subst, sym, take}
 use Rattle.coniks_proof.specs.Sha256.{sha256}
 use Rattle.coniks_client.specs.Kept.{IsChain, verified_before}
 use Rattle.coniks_client.specs.declared.kept.Kept.{Kept}
-use Rattle.coniks_states.specs.Restoring.{AreVerified}
-use Rattle.coniks_states.specs.Saved.{mark_from}
+use Rattle.coniks_quorum.specs.Restoring.{AreVerified}
+use Rattle.coniks_quorum.specs.Saved.{mark_from}
 use Rattle.coniks_c.specs.CoreStates.{AreValid}
 use Rattle.coniks_c.specs.CoreTold.{watch_in}
 use Rattle.coniks_c.proofs.CoreStateLemmas.{same-state, unread-chain, valid-count, verified-alike, watched-state}

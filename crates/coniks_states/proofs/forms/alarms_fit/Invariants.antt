@@ -1,8 +1,0 @@
-use Rattle.std.proofs.Common.{take}
-use Rattle.std.specs.List.{All}
-use Rattle.coniks_states.specs.Forms.{AlarmFits}
-use Rattle.coniks_states.specs.Saved.{alarm_from}
-use Rattle.coniks_states.proofs.forms.alarms_fit.Given as goal
-
-abbrev pub invariant-loop-bytes : goal.invariant-loop-bytes
-invariant-loop-bytes l = All (λ bytes. AlarmFits l.since (alarm_from bytes)) (take l.bytes-index l.alarms)

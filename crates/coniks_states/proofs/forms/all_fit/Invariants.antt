@@ -1,8 +1,0 @@
-use Rattle.std.proofs.Common.{take}
-use Rattle.std.specs.List.{All}
-use Rattle.coniks_states.specs.Forms.{Fits}
-use Rattle.coniks_states.specs.Saved.{kept_from}
-use Rattle.coniks_states.proofs.forms.all_fit.Given as goal
-
-abbrev pub invariant-loop-bytes : goal.invariant-loop-bytes
-invariant-loop-bytes l = All (λ bytes. Fits l.since (kept_from bytes)) (take l.bytes-index l.kept)

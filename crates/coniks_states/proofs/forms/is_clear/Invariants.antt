@@ -1,8 +1,0 @@
-use Rattle.std.proofs.Common.{take}
-use Rattle.std.specs.List.{All}
-use Rattle.coniks_states.specs.Forms.{IsClearAt}
-use Rattle.coniks_states.specs.Saved.{kept_from, saved_change}
-use Rattle.coniks_states.proofs.forms.is_clear.Given as goal
-
-abbrev pub invariant-loop-bytes : goal.invariant-loop-bytes
-invariant-loop-bytes l = All (λ bytes. IsClearAt (saved_change l.change) (kept_from bytes)) (take l.bytes-index l.kept)

@@ -1,8 +1,0 @@
-use Rattle.coniks_states.proofs.LawLemmas.{form_law, watched_law}
-use Rattle.coniks_states.proofs.laws.clients.Goals as goal
-
-pub returns-clause-form : goal.returns-clause-form
-returns-clause-form c = form_law
-
-pub returns-clause-watched : goal.returns-clause-watched
-returns-clause-watched c = watched_law

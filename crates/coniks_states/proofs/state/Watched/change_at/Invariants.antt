@@ -1,5 +1,0 @@
-use Rattle.coniks_states.proofs.WalkLemmas.{Leaves}
-use Rattle.coniks_states.proofs.state.Watched.change_at.Given as goal
-
-abbrev pub invariant-loop-before : goal.invariant-loop-before
-invariant-loop-before l = Leaves l.self.changes.now l._before l.rest
