@@ -13,7 +13,7 @@ from functools import cache, partial
 from pathlib import Path
 from typing import Any, Callable, Iterator, Optional, Sequence, Union
 
-import case_files
+import case_rows
 import pytest
 import tools
 from bytelists import demonstration_index
@@ -156,13 +156,12 @@ def try_test(library: str, crate: str, test: str, costs_workers: bool) -> str:
 class CaseRun:
     """A case as a program runs it: the program's name, its arguments, and the case."""
 
-    def __init__(self, case: case_files.Case) -> None:
-        folder = case.stem.parent.name
+    def __init__(self, case: case_rows.Case) -> None:
         self.case = case
-        self.program = next(it for it, folders in case_files.FOLDERS.items() if folder in folders)
-        self.has_board = folder in WITH_BOARD
+        self.program = next(it for it, tables in case_rows.TABLES.items() if case.table in tables)
+        self.has_board = case.table in WITH_BOARD
         self.words: list[Union[str, bytes, Path]] = [CRATES / self.program / "out" / self.program, *case.words()]
-        if self.program == "provider" and not case.has(".words"):
+        if self.program == "provider" and b"--workers" not in case.words():
             # Without an option it has as many workers as the machine has processors.
             self.words += ["--workers", "1"]
         self.has_workers = self.workers() != "1"
@@ -175,7 +174,7 @@ class CaseRun:
 
 def text_of(run: CaseRun, kind: str, number: int, ran: Ran) -> Optional[str]:
     """What a run reports of the call that failed; none if it ends as without a failure."""
-    whole = run.case.read(".out")
+    whole = run.case.read("out")
     if (ran.status, ran.output, ran.errors) == (run.case.status(), whole, b""):
         return None
     is_part = whole.startswith(ran.output) and (kind in ("write", "stall") or ran.output[-1:] in (b"", b"\n"))
@@ -201,7 +200,7 @@ def try_bytes(library: str, run: CaseRun) -> str:
     """One byte a call gives the same output."""
     case = run.case
     ran = Ran(library, "bytes 0", run.words, case.given())
-    if (ran.status, ran.output, ran.errors) != (case.status(), case.read(".out"), b""):
+    if (ran.status, ran.output, ran.errors) != (case.status(), case.read("out"), b""):
         raise Wrong(f"status {ran.status}, {ran.errors!r}, output {ran.output[-200:]!r}")
     return "the whole output"
 
@@ -268,7 +267,7 @@ def tries() -> Iterator[tuple[str, Try]]:
     yield from thread_tries()
     for crate, test, costs_workers in TESTS:
         yield f"{crate}, {test}", partial(try_test, crate=crate, test=test, costs_workers=costs_workers)
-    for run in map(CaseRun, case_files.chosen(RUNS)[0]):
+    for run in map(CaseRun, case_rows.chosen(RUNS)[0]):
         for kind in TEXTS:
             yield f"{run.case.name}, {kind}", partial(try_program, run=run, kind=kind)
         yield f"{run.case.name}, one byte a call", partial(try_bytes, run=run)
@@ -282,7 +281,7 @@ def running(request: pytest.FixtureRequest, tmp_path_factory: pytest.TempPathFac
     """The tries of the chosen tests, of which as many run at once as there are processors."""
     if not tools.has("a C compiler"):
         pytest.skip("a C compiler is missing")
-    if not all((CRATES / it / "out" / it).is_file() for it in case_files.FOLDERS):
+    if not all((CRATES / it / "out" / it).is_file() for it in case_rows.TABLES):
         pytest.skip("keydir and provider aren't built: `rt ci` builds them")
     library = str(tmp_path_factory.mktemp("faults") / "failing.so")
     subprocess.run([tools.CC, "-O1", "-shared", "-fPIC", "-o", library, HERE / "failing.c"], check=True)

@@ -186,7 +186,7 @@ PYTHON = [
     ),
     Part(
         "replays",
-        [*package("_engine", "_restoring", "_snapshot_lines", "log"), *OF_PROVIDERS, "cases/replay/*", "cases/case_files.py"],
+        [*package("_engine", "_restoring", "_snapshot_lines", "log"), *OF_PROVIDERS, "cases/replay.jsonl", "cases/case_rows.py"],
         tests("provider", "test_replays"),
         library=True,
     ),
@@ -498,13 +498,13 @@ PAGES = [
     ),
 ]
 
-# The folders of cases that each second program passes.
+# The tables of cases that each second program passes.
 SECOND = {"keydir": ["run", "check", "audit", "monitor"], "provider": ["provider", "replay"]}
 CASES = [
     *[
-        Part(f"{what} {program}", [*(f"cases/{it}/*" for it in folders), "cases/case_files.py"], [script, place])
+        Part(f"{what} {program}", [*(f"cases/{it}.jsonl" for it in tables), "cases/case_rows.py"], [script, place])
         for what, script in (("the cases over", "cases/compare"), ("the streams of", "cases/streams"))
-        for program, place, folders in (
+        for program, place, tables in (
             ("keydir", KEYDIR, ["run", "check", "audit", "monitor", "words"]),
             ("provider", PROVIDER, ["provider", "provider-words", "replay"]),
         )
@@ -519,12 +519,13 @@ CASES = [
     *[
         Part(
             f"{program} in Python",
-            ["cases/second/*", *(f"cases/{it}/*" for it in folders)],
-            ["cases/compare", f"cases/second/{program}", *folders],
+            ["cases/second/*", *(f"cases/{it}.jsonl" for it in tables)],
+            ["cases/compare", f"cases/second/{program}", *tables],
         )
-        for program, folders in SECOND.items()
+        for program, tables in SECOND.items()
     ],
     Part("the second directory at size", ["cases/second/*", "cases/size.json"], ["cases/second/at-size", "--check"]),
+    Part("the rows of cases", ["cases/case_rows.py", "cases/compare", "cases/second/row"], ["cases/tests/test_rows.py"]),
     Part("forks", ["cases/second/*", "cases/evidence.jsonl"], ["cases/second/forks", "--check"]),
     Part("the cases of clients", ["cases/second/*", "cases/client/*"], ["cases/second/clients", "--check"]),
 ]

@@ -14,7 +14,7 @@ from dataclasses import replace
 from pathlib import Path
 from typing import Any, Callable, Sequence
 
-import case_files
+import case_rows
 import coniks as package
 import evidence
 import pytest
@@ -215,8 +215,8 @@ def answer_by_python(members: dict[str, Any]) -> dict[str, Any]:
 def test_lines() -> None:
     """Each line of the cases of `check` that is read up to its proof has its result."""
     tried, wrong = 0, []
-    for case in case_files.chosen(["check"])[0]:
-        for line, answer in zip(case.given().split(b"\n"), case.read(".out").splitlines()):
+    for case in case_rows.chosen(["check"])[0]:
+        for line, answer in zip(case.given().split(b"\n"), case.read("out").splitlines()):
             wanted = json.loads(answer)
             if wanted.get("fault") == "Json" or wanted.get("member", "proof") != "proof":
                 continue

@@ -15,7 +15,7 @@ from counting import Tally
 TOP = Path(__file__).resolve().parents[2]
 
 # Files of which no part but the linters says anything: what only a person starts, or what nothing reads.
-ALONE = [".clang-format", ".editorconfig", "cases/.gitattributes", "HANDLES", "LICENSE"]
+ALONE = [".clang-format", ".editorconfig", "HANDLES", "LICENSE"]
 ALONE += ["embed/clients", "embed/test", "examples/readme", "web/test"]
 ALONE += ["embed/python/tests/cluster/cluster_speed.py", "embed/python/tests/provider/lookup_speed.py"]
 

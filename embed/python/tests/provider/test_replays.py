@@ -1,4 +1,4 @@
-"""The program's own replay beside that of `coniks.provider`: each case of cases/replay by both, and the files of a directory."""
+"""The program's own replay beside that of `coniks.provider`: each case of cases/replay.jsonl by both, and the files of a directory."""
 
 from __future__ import annotations
 
@@ -17,7 +17,7 @@ from coniks.provider import FileLog, Register, Settings, SignerFailed
 ROOT = HERE.parents[3]
 sys.path.append(str(ROOT / "cases"))
 
-from case_files import Case, cases_of
+from case_rows import chosen
 
 # A file whose first line does not begin as that of `FileLog` is no log for it.
 OTHER_FILES = ("log-with-a-member-twice", "log-with-white-space", "snapshot-with-other-members")
@@ -59,19 +59,20 @@ def replayed(program: str, path: Path) -> Optional[dict[str, Any]]:
 
 def test_cases(program: str, tmp_path: Path) -> None:
     """Both accept the same lines, and then have the same."""
-    cases, wrong = cases_of(ROOT / "cases" / "replay")
+    cases, wrong = chosen(["replay"])
     assert len(cases) > 150 and not wrong
-    for name, case in cases.items():
+    for case in cases:
         # A log without a line is a directory that is made.
-        if case.stem.name == "no-line":
+        name = case.members["name"]
+        if name == "no-line":
             continue
         snapshot, log = split(case.given().removesuffix(b"\n").split(b"\n"))
-        path = tmp_path / case.stem.name
+        path = tmp_path / name
         written(path, log)
         if snapshot:
             written(Path(f"{path}.snapshot"), snapshot)
-        told = json.loads(case.read(".out"))
-        wanted = None if "refused" in told or case.stem.name in OTHER_FILES else told
+        told = json.loads(case.read("out"))
+        wanted = None if "refused" in told or name in OTHER_FILES else told
         assert replayed(program, path) == wanted, name
 
 
