@@ -22,6 +22,9 @@ VRF = re.findall(r"VRF +([0-9a-f]{64})", TRANSCRIPT)[0]
 OTHER_SIGNING = "d75a980182b10ab7d54bfed3c964073a0ee172f3daa62325af021a68f707511a"
 OTHER_VRF = "3d4017c3e843895a92b70aa74d1b7ebc9c982ccf2ec4968cc0cd55f12af4660c"
 
+# The signing key of the stored cases but `absence-of-alice`, which has the example's.
+CASE_SIGNING = "1f583a483904bb1d4e75cf13a12a78aab6692381e0a6fa9ad8e88c9f272bb907"
+
 # The keys of PROVIDED are those of the example.
 AUTHENTIC = (
     "authentic under the example's keys, which prove nothing about any directory since their secrets are public: "
@@ -37,11 +40,6 @@ NO_VRF_KEY = f"{CONSISTENT}; no VRF key is given"
 def case(name: str) -> str:
     """The lines of a stored case."""
     return (CASES / f"{name}.jsonl").read_text("utf-8")
-
-
-def key_of(name: str) -> str:
-    """The signing key of a stored case."""
-    return (CASES / f"{name}.key").read_text("utf-8").strip()
 
 
 def lines_of(text: str) -> list[dict[str, Any]]:

@@ -14,7 +14,7 @@ import pytest
 pytest.importorskip("nacl.signing")
 
 from browser import Browser, count, paste, set_keys, texts
-from given import DEMONSTRATION, ENTRIES, KEY, LOOKUPS, PROVIDED, SIGNING, VRF, case, key_of, lines_of, text_of
+from given import CASE_SIGNING, DEMONSTRATION, ENTRIES, KEY, LOOKUPS, PROVIDED, SIGNING, VRF, case, lines_of, text_of
 from nacl.signing import SigningKey
 from picture import shows_green
 
@@ -91,20 +91,20 @@ def saved_by(browser: Browser, link: str, file: Path) -> str:
 
 def test_stored(browser: Browser, tmp_path: Path) -> None:
     """The stored cases: an absence that is renamed, names that look alike or turn, spaces, and a fork."""
-    for keys in [{"signing": key_of("absence-of-alice")}, {"signing": key_of("absence-of-alice"), "vrf": VRF}]:
+    for keys in [{"signing": SIGNING}, {"signing": SIGNING, "vrf": VRF}]:
         said = shown(browser, f"a renamed absence, {len(keys)} keys", case("absence-of-alice"), **keys)
         conditional = [it for it in said if it.startswith("At the index in this line, which nobody has verified")]
         assert said and conditional == said, ("a renamed absence has its condition in front", said)
         seen = texts(browser, "#timeline li > span:last-child")
         assert seen and not any(it.startswith("not registered") for it in seen), ("and over the epochs too", seen)
     for name in ["rtl", "same-looking", "spaces"]:
-        said = shown(browser, name, case(name), signing=key_of(name))
+        said = shown(browser, name, case(name), signing=CASE_SIGNING)
         names = {it["name"] for it in lines_of(case(name)) if it["ok"] == "lookup"}
         assert len({it.split(", ", 2)[1] for it in said}) == len(names), (f"{name}: different names look different", said)
         assert in_order(browser), (f"{name}: each sentence is in order", said)
     widths = browser.value("[...document.querySelectorAll('.name, .key')].map(it => getComputedStyle(it).whiteSpaceCollapse)")
     assert widths and set(widths) == {"preserve"}, ("spaces in names and keys don't collapse", widths)
-    shown(browser, "a fork", case("fork"), signing=key_of("fork"))
+    shown(browser, "a fork", case("fork"), signing=CASE_SIGNING)
     entries = [json.dumps({"entry": it["entry"]}, separators=(",", ":")) for it in lines_of(case("fork")) if it["ok"] == "install"]
     said = contradictions(browser)
     is_well = bool(said) and said[0].startswith("The provider equivocated") and all(it in said[0] for it in entries)
@@ -270,7 +270,7 @@ def test_contradictions(browser: Browser) -> None:
     assert not contradictions(browser), "a refused answer contradicts nothing"
     shown(browser, "answers of two epochs", text_of([*ENTRIES, alice, LOOKUPS[2]]), 2)
     assert not contradictions(browser), "two epochs contradict nothing"
-    text, key = case("fork"), key_of("fork")
+    text, key = case("fork"), CASE_SIGNING
     lookups = text_of(it for it in lines_of(text) if it["ok"] == "lookup")
     for what, lines, signing, wanted in [
         ("entries of lookups alone", lookups, key, True),

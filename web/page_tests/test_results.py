@@ -11,6 +11,7 @@ import samples
 from browser import FRESH, PAGE, Browser, count, note, paste, press, set_keys, standings, texts, wait
 from given import (
     AUTHENTIC,
+    CASE_SIGNING,
     DEMONSTRATION,
     ENTRIES,
     FORGEABLE,
@@ -26,7 +27,6 @@ from given import (
     UNSIGNED,
     VRF,
     case,
-    key_of,
     lines_of,
     text_of,
 )
@@ -213,7 +213,7 @@ def test_example_keys(browser: Browser) -> None:
         ("both", {"signing": SIGNING, "vrf": VRF}, PROVIDED, True),
         ("capitals", {"signing": SIGNING.upper(), "vrf": VRF.upper()}, PROVIDED, True),
         ("the signing key alone", {"signing": SIGNING}, PROVIDED, True),
-        ("another signing key", {"signing": key_of("fork"), "vrf": OTHER_VRF}, case("fork"), False),
+        ("another signing key", {"signing": CASE_SIGNING, "vrf": OTHER_VRF}, case("fork"), False),
     ]:
         set_keys(browser, "provider", **keys)
         paste(browser, lines)
