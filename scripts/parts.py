@@ -502,7 +502,11 @@ PAGES = [
 SECOND = {"keydir": ["run", "check", "audit", "monitor"], "provider": ["provider", "replay"]}
 CASES = [
     *[
-        Part(f"{what} {program}", [*(f"cases/{it}.jsonl" for it in tables), "cases/case_rows.py"], [script, place])
+        Part(
+            f"{what} {program}",
+            [*(f"cases/{it}.jsonl" for it in tables), "cases/case_rows.py", "cases/limited.py"],
+            [script, place],
+        )
         for what, script in (("the cases over", "cases/compare"), ("the streams of", "cases/streams"))
         for program, place, tables in (
             ("keydir", KEYDIR, ["run", "check", "audit", "monitor", "words"]),
@@ -511,8 +515,8 @@ CASES = [
     ],
     Part("the hashed byte lists", ["cases/bytes.json"], ["cases/bytes", KEYDIR]),
     Part("wrong programs", ["cases/wrong/*"], ["cases/wrong/told-apart", KEYDIR]),
-    Part("provider beside keydir", [], ["cases/like-run", PROVIDER]),
-    Part("many epochs", [], ["cases/epochs", PROVIDER]),
+    Part("provider beside keydir", ["cases/limited.py"], ["cases/like-run", PROVIDER]),
+    Part("many epochs", ["cases/limited.py"], ["cases/epochs", PROVIDER]),
     Part("a long page", ["cases/limited.py", "cases/size_lines.py"], ["cases/long-page", PROVIDER]),
     Part("a directory of 100,000 names", ["cases/size.json", "cases/size_lines.py", "cases/limited.py"], ["cases/size", KEYDIR]),
     Part("a restored directory", ["cases/restored.json", "cases/limited.py", "cases/size_lines.py"], ["cases/restored", PROVIDER]),
@@ -526,6 +530,11 @@ CASES = [
     ],
     Part("the second directory at size", ["cases/second/*", "cases/size.json"], ["cases/second/at-size", "--check"]),
     Part("the rows of cases", ["cases/case_rows.py", "cases/compare", "cases/second/row"], ["cases/tests/test_rows.py"]),
+    Part(
+        "programs that hang",
+        [*(f"cases/{it}" for it in ("bytes", "compare", "epochs", "like-run", "limited.py", "restored", "streams"))],
+        ["cases/tests/test_late.py"],
+    ),
     Part("forks", ["cases/second/*", "cases/evidence.jsonl"], ["cases/second/forks", "--check"]),
     Part("the cases of clients", ["cases/second/*", "cases/client/*"], ["cases/second/clients", "--check"]),
 ]

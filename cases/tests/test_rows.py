@@ -87,7 +87,7 @@ def test_wrong_rows(tmp_path: Path, row: str, fault: str) -> None:
 )
 def test_wrong_tables(tmp_path: Path, rows: str, told: str) -> None:
     """`compare` fails on a row that is no case, and on a table without one."""
-    for name in ["compare", "case_rows.py"]:
+    for name in ["compare", "case_rows.py", "limited.py"]:
         shutil.copy(CASES / name, tmp_path)
     (tmp_path / "check.jsonl").write_text(rows)
     ran = subprocess.run([tmp_path / "compare", CASES / "second/keydir", "check"], capture_output=True, text=True)
