@@ -66,11 +66,11 @@ const (
 	ErrNoEntry        Refused = C.CONIKS_E_NO_ENTRY
 )
 
-func (it Refused) Error() string {
-	if text := Text(uint32(it)); text != "" {
+func (r Refused) Error() string {
+	if text := Text(uint32(r)); text != "" {
 		return text
 	}
-	return fmt.Sprintf("status %d", uint32(it))
+	return fmt.Sprintf("status %d", uint32(r))
 }
 
 // Text returns the text of an error's status in coniks.h, and the empty text for other numbers.
@@ -146,18 +146,18 @@ func Resume(state [StateBytes]byte) (it Auditor) {
 }
 
 // State returns all that the auditor keeps, in this machine's byte order.
-func (it *Auditor) State() [StateBytes]byte {
-	return *(*[StateBytes]byte)(unsafe.Pointer(&it.state))
+func (a *Auditor) State() [StateBytes]byte {
+	return *(*[StateBytes]byte)(unsafe.Pointer(&a.state))
 }
 
 // Reset makes it an auditor that has seen no entry.
-func (it *Auditor) Reset() {
-	C.coniks_auditor_begin(&it.state)
+func (a *Auditor) Reset() {
+	C.coniks_auditor_begin(&a.state)
 }
 
 // Feed accepts an entry that follows the last one. After an error the auditor is unchanged.
-func (it *Auditor) Feed(entry []byte, signatureIsGood bool) error {
-	return refused(C.coniks_auditor_feed(&it.state, start(entry), size(entry), verdict(signatureIsGood)))
+func (a *Auditor) Feed(entry []byte, signatureIsGood bool) error {
+	return refused(C.coniks_auditor_feed(&a.state, start(entry), size(entry), verdict(signatureIsGood)))
 }
 
 // Head is the number of an epoch and the link of its entry, as Auditor.Head returns them.
@@ -167,9 +167,9 @@ type Head struct {
 }
 
 // Head returns the epoch and the link of the last entry accepted, and ErrNoEntry before the first.
-func (it *Auditor) Head() (epoch uint64, link [32]byte, err error) {
+func (a *Auditor) Head() (epoch uint64, link [32]byte, err error) {
 	var number C.uint64_t
-	err = refused(C.coniks_auditor_head(&it.state, &number, bytes32(&link)))
+	err = refused(C.coniks_auditor_head(&a.state, &number, bytes32(&link)))
 	return uint64(number), link, err
 }
 
@@ -183,8 +183,8 @@ const (
 	Changed                 // another key than the expected one, or one though none is expected
 )
 
-func (it Seen) String() string {
-	switch it {
+func (s Seen) String() string {
+	switch s {
 	case 0:
 		return "invalid"
 	case Same:
@@ -194,7 +194,7 @@ func (it Seen) String() string {
 	case Changed:
 		return "changed"
 	}
-	return fmt.Sprintf("Seen(%d)", uint32(it))
+	return fmt.Sprintf("Seen(%d)", uint32(s))
 }
 
 // Monitor watches one name over a chain, for a client that expects a key, or none if Expected has no bytes. Its auditor
@@ -208,10 +208,10 @@ type Monitor struct {
 
 // Step returns what the proof shows at the entry's epoch. With an error it returns 0, which is invalid, and the monitor is
 // unchanged.
-func (it *Monitor) Step(entry []byte, signatureIsGood bool, proof []byte) (Seen, error) {
-	name := []byte(it.Name)
-	status := C.coniks_monitor_step(&it.Auditor.state, bytes32(&it.Index), start(name), size(name), start(it.Expected),
-		size(it.Expected), start(entry), size(entry), verdict(signatureIsGood), start(proof), size(proof))
+func (m *Monitor) Step(entry []byte, signatureIsGood bool, proof []byte) (Seen, error) {
+	name := []byte(m.Name)
+	status := C.coniks_monitor_step(&m.Auditor.state, bytes32(&m.Index), start(name), size(name), start(m.Expected),
+		size(m.Expected), start(entry), size(entry), verdict(signatureIsGood), start(proof), size(proof))
 	switch status {
 	case C.CONIKS_GOOD:
 		return Same, nil
@@ -278,11 +278,11 @@ func BodyOf(entry []byte) (Body, error) {
 }
 
 // Bytes returns the bytes that are signed.
-func (it Body) Bytes() [BodyBytes]byte {
+func (b Body) Bytes() [BodyBytes]byte {
 	var out C.coniks_bytes145
 	body := C.coniks_body{
-		epoch: C.uint64_t(it.Epoch), previous_epoch: C.uint64_t(it.PreviousEpoch), version: C.uint8_t(it.Version),
-		root: *bytes32(&it.Root), previous_link: *bytes32(&it.PreviousLink), nonce: *bytes32(&it.Nonce), policy: *bytes32(&it.Policy),
+		epoch: C.uint64_t(b.Epoch), previous_epoch: C.uint64_t(b.PreviousEpoch), version: C.uint8_t(b.Version),
+		root: *bytes32(&b.Root), previous_link: *bytes32(&b.PreviousLink), nonce: *bytes32(&b.Nonce), policy: *bytes32(&b.Policy),
 	}
 	C.coniks_body_bytes(&body, &out)
 	return *(*[BodyBytes]byte)(unsafe.Pointer(&out))

@@ -56,7 +56,7 @@ func ReadPolicy(text []byte) (it Policy, err error) {
 }
 
 // UnmarshalText reads a document, as ReadPolicy does.
-func (it *Policy) UnmarshalText(text []byte) error {
+func (p *Policy) UnmarshalText(text []byte) error {
 	found := policyText.FindSubmatch(text)
 	if found == nil {
 		return errors.New("this is no policy document of docs/FORMATS.md: take the bytes that its directory publishes")
@@ -81,56 +81,56 @@ func (it *Policy) UnmarshalText(text []byte) error {
 		read.ProofsKept = &kept
 	}
 	read.RecordsVouched = found[6] != nil
-	*it = read
+	*p = read
 	return nil
 }
 
 // MarshalText returns the document, which clients and auditors get. It returns an error if the policy has none: the origin has
 // other characters, or there is a start of epoch 1 without a period.
-func (it Policy) MarshalText() ([]byte, error) {
-	if !policyOrigin.MatchString(it.Origin) {
+func (p Policy) MarshalText() ([]byte, error) {
+	if !policyOrigin.MatchString(p.Origin) {
 		return nil, errors.New("the origin has 1 to 255 printable ASCII characters without space: set Origin")
 	}
-	if it.EpochPeriod == 0 && it.EpochStart != 0 {
+	if p.EpochPeriod == 0 && p.EpochStart != 0 {
 		return nil, errors.New("a clock has a start and a period: set EpochPeriod, or neither")
 	}
 	var text bytes.Buffer
-	fmt.Fprintf(&text, "policy coniks-1\norigin %s\nsignature Ed25519\nsigning-key %x\n", it.Origin, it.SigningKey)
-	if it.VRFKey == nil {
+	fmt.Fprintf(&text, "policy coniks-1\norigin %s\nsignature Ed25519\nsigning-key %x\n", p.Origin, p.SigningKey)
+	if p.VRFKey == nil {
 		text.WriteString("vrf none\n")
 	} else {
-		fmt.Fprintf(&text, "vrf ECVRF-EDWARDS25519-SHA512-TAI\nvrf-key %x\n", *it.VRFKey)
+		fmt.Fprintf(&text, "vrf ECVRF-EDWARDS25519-SHA512-TAI\nvrf-key %x\n", *p.VRFKey)
 	}
-	if it.EpochPeriod > 0 {
-		fmt.Fprintf(&text, "epoch-start %d\nepoch-period %d\n", it.EpochStart, it.EpochPeriod)
+	if p.EpochPeriod > 0 {
+		fmt.Fprintf(&text, "epoch-start %d\nepoch-period %d\n", p.EpochStart, p.EpochPeriod)
 	}
 	text.WriteString("evidence one-chain\n")
-	if it.RecordsVouched {
+	if p.RecordsVouched {
 		text.WriteString("records vouched\n")
 	}
-	if it.ProofsKept == nil {
+	if p.ProofsKept == nil {
 		text.WriteString("proofs-kept forever\n")
 	} else {
-		fmt.Fprintf(&text, "proofs-kept %d\n", *it.ProofsKept)
+		fmt.Fprintf(&text, "proofs-kept %d\n", *p.ProofsKept)
 	}
 	return text.Bytes(), nil
 }
 
 // Digest returns the policy digest. It returns an error if the policy has no document.
-func (it Policy) Digest() ([32]byte, error) {
-	text, err := it.MarshalText()
+func (p Policy) Digest() ([32]byte, error) {
+	text, err := p.MarshalText()
 	return sha256.Sum256(text), err
 }
 
 // EpochAt returns the number of the epoch at a time. It returns ErrNoClock if the policy has no clock, and another error before
 // epoch 1.
-func (it Policy) EpochAt(at time.Time) (uint64, error) {
-	if it.EpochPeriod == 0 {
+func (p Policy) EpochAt(at time.Time) (uint64, error) {
+	if p.EpochPeriod == 0 {
 		return 0, ErrNoClock
 	}
 	seconds := at.Unix()
-	if seconds < 0 || uint64(seconds) < it.EpochStart {
-		return 0, fmt.Errorf("epoch 1 begins at %d Unix seconds: check the clock", it.EpochStart)
+	if seconds < 0 || uint64(seconds) < p.EpochStart {
+		return 0, fmt.Errorf("epoch 1 begins at %d Unix seconds: check the clock", p.EpochStart)
 	}
-	return 1 + (uint64(seconds)-it.EpochStart)/it.EpochPeriod, nil
+	return 1 + (uint64(seconds)-p.EpochStart)/p.EpochPeriod, nil
 }

@@ -171,15 +171,15 @@ var causes = map[Cause]struct{ name, text string }{
 }
 
 // String returns the name in docs/FORMATS.md, for example "VrfProof".
-func (it Cause) String() string {
-	if known, is := causes[it]; is {
+func (c Cause) String() string {
+	if known, is := causes[c]; is {
 		return known.name
 	}
-	return fmt.Sprintf("Cause(%d)", uint8(it))
+	return fmt.Sprintf("Cause(%d)", uint8(c))
 }
 
 // Error returns the name too. The error of a call is a *Refusal.
-func (it Cause) Error() string { return it.String() }
+func (c Cause) Error() string { return c.String() }
 
 // Evidence is two signed entries of 209 bytes that convict the owner of the signing key, and why. Mine is one that the client
 // kept, or Other itself if no chain has it.
@@ -197,20 +197,20 @@ type Refusal struct {
 	Evidence *Evidence
 }
 
-func (it *Refusal) Error() string {
-	if known := causes[it.Cause]; known.text != "" {
+func (r *Refusal) Error() string {
+	if known := causes[r.Cause]; known.text != "" {
 		return known.text
 	}
-	return coniks.Refused(it.Cause).Error()
+	return coniks.Refused(r.Cause).Error()
 }
 
 // Is compares the cause, or the status.
-func (it *Refusal) Is(target error) bool {
+func (r *Refusal) Is(target error) bool {
 	switch target := target.(type) {
 	case Cause:
-		return it.Cause == target
+		return r.Cause == target
 	case coniks.Refused:
-		return it.Status != 0 && it.Status == target
+		return r.Status != 0 && r.Status == target
 	}
 	return false
 }
@@ -244,16 +244,16 @@ var misuses = map[C.uint32_t]string{
 }
 
 // misuse returns the error of a call that the caller must not make, nil for the status of success.
-func (it *memory) misuse(status C.uint32_t, name string) error {
+func (m *memory) misuse(status C.uint32_t, name string) error {
 	switch status {
 	case 0:
 		return nil
 	case nameLength:
 		return fmt.Errorf("a name has 1 to 255 bytes, not %d", len(name))
 	case changeOpen:
-		return fmt.Errorf("another change is expected by epoch %d: expect the next one after it", it.changes[len(it.changes)-1].firstNew)
+		return fmt.Errorf("another change is expected by epoch %d: expect the next one after it", m.changes[len(m.changes)-1].firstNew)
 	case notLater:
-		return fmt.Errorf("epoch %d is in the chain: expect the new key by a later one", it.latestEpoch())
+		return fmt.Errorf("epoch %d is in the chain: expect the new key by a later one", m.latestEpoch())
 	}
 	return errors.New(misuses[status])
 }
@@ -266,18 +266,18 @@ func nameOf(names []string, kind string, number uint8) string {
 	return fmt.Sprintf("%s(%d)", kind, number)
 }
 
-func (it Comparison) String() string {
-	if it < Equal || it > Differs {
+func (c Comparison) String() string {
+	if c < Equal || c > Differs {
 		return "invalid"
 	}
-	return []string{Equal: "equal", Unknown: "unknown", Differs: "differs"}[it]
+	return []string{Equal: "equal", Unknown: "unknown", Differs: "differs"}[c]
 }
 
-func (it Watched) String() string {
+func (w Watched) String() string {
 	names := []string{Unwatched: "unwatched", Same: "same", Changed: "changed", Absent: "absent", Missing: "missing"}
-	return nameOf(names, "Watched", uint8(it))
+	return nameOf(names, "Watched", uint8(w))
 }
 
-func (it Verdict) String() string {
-	return nameOf([]string{"", "changed", "missing", "lost", "unwatched", "unconfirmed", "good"}, "Verdict", uint8(it))
+func (v Verdict) String() string {
+	return nameOf([]string{"", "changed", "missing", "lost", "unwatched", "unconfirmed", "good"}, "Verdict", uint8(v))
 }

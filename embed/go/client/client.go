@@ -80,9 +80,9 @@ type Client struct {
 }
 
 // locked begins a call, and returns what ends it.
-func (it *Client) locked() (unlock func()) {
-	it.mutex.Lock()
-	return it.mutex.Unlock
+func (c *Client) locked() (unlock func()) {
+	c.mutex.Lock()
+	return c.mutex.Unlock
 }
 
 // New returns a client that has no entry: the first one that it accepts begins the chain.
@@ -141,29 +141,29 @@ func Vouched(settings Settings, entry []byte, heads map[string]coniks.Head, leas
 }
 
 // digest returns the policy digest.
-func (it *Settings) digest() ([32]byte, error) {
+func (s *Settings) digest() ([32]byte, error) {
 	switch {
-	case (it.Policy == nil) == (it.Digest == nil):
+	case (s.Policy == nil) == (s.Digest == nil):
 		return [32]byte{}, errors.New("Policy and Digest are both missing or both set: set one of them")
-	case it.Digest != nil:
-		return *it.Digest, nil
+	case s.Digest != nil:
+		return *s.Digest, nil
 	}
-	return it.Policy.Digest()
+	return s.Policy.Digest()
 }
 
 // State returns all that the client keeps, for Resume: 110 bytes, 218 for each epoch, 9 for each alarm, 8 for each auditor, and those of
 // the watched name. Store it after each call that may change it, also after an error: Feed keeps the entries before the one that it
 // refuses. A client that goes on from an older state has forgotten what was accepted since.
-func (it *Client) State() []byte {
-	defer it.locked()()
-	return it.memory.state(&it.digest, &it.trust)
+func (c *Client) State() []byte {
+	defer c.locked()()
+	return c.memory.state(&c.digest, &c.trust)
 }
 
 // resume takes a state. It verifies the whole chain, and takes all of it or nothing.
-func (it *Client) resume(state []byte) error {
-	status, needs := stateNeeds(&it.digest, state)
+func (c *Client) resume(state []byte) error {
+	status, needs := stateNeeds(&c.digest, state)
 	if status == 0 {
-		status = it.memory.read(&it.digest, &it.trust, state, needs, it.stateVerdicts(state, needs))
+		status = c.memory.read(&c.digest, &c.trust, state, needs, c.stateVerdicts(state, needs))
 	}
 	return refused(status)
 }

@@ -58,8 +58,8 @@ func limit(given *time.Duration, other uint64) (C.uint64_t, error) {
 }
 
 // now returns the time of the caller's clock, which a state has as a number.
-func (it *clock) now() (time.Time, error) {
-	now := it.read()
+func (c *clock) now() (time.Time, error) {
+	now := c.read()
 	if now.Unix() < 0 {
 		return time.Time{}, errors.New("the clock's time is before 1970: check the clock")
 	}
@@ -67,8 +67,8 @@ func (it *clock) now() (time.Time, error) {
 }
 
 // at returns the policy's clock, the limits and a time, as the core takes them. A time before 1970 counts as 1970.
-func (it *clock) at(now time.Time) C.coniks_present {
-	present := it.present
+func (c *clock) at(now time.Time) C.coniks_present {
+	present := c.present
 	if seconds := now.Unix(); seconds > 0 {
 		present.time = C.uint64_t(seconds)
 	}
@@ -77,13 +77,13 @@ func (it *clock) at(now time.Time) C.coniks_present {
 
 // duration returns how long ago an epoch began by the policy's clock, nil without one. It is below 0 if the epoch has not begun. One that
 // is too long for a duration is the longest one, and so is that of an epoch that begins 2^62 seconds after 1970 or later.
-func (it *clock) duration(epoch uint64, now time.Time) *time.Duration {
-	if it.present.has_clock == 0 {
+func (c *clock) duration(epoch uint64, now time.Time) *time.Duration {
+	if c.present.has_clock == 0 {
 		return nil
 	}
 	// Epoch n begins n - 1 periods after the start. No chain has the epoch 0.
-	high, after := bits.Mul64(epoch-1, uint64(it.present.period))
-	begins, carry := bits.Add64(uint64(it.present.start), after, 0)
+	high, after := bits.Mul64(epoch-1, uint64(c.present.period))
+	begins, carry := bits.Add64(uint64(c.present.start), after, 0)
 	duration := time.Duration(math.MinInt64)
 	if high == 0 && carry == 0 && begins < 1<<62 {
 		duration = now.Sub(time.Unix(int64(begins), 0))

@@ -39,15 +39,15 @@ type array[T any] struct {
 	count  C.size_t
 }
 
-func (it *array[T]) get() []T { return it.memory[:it.count] }
+func (a *array[T]) get() []T { return a.memory[:a.count] }
 
-func (it *array[T]) room() C.size_t { return C.size_t(len(it.memory)) }
+func (a *array[T]) room() C.size_t { return C.size_t(len(a.memory)) }
 
 // reserve makes room for more elements.
-func (it *array[T]) reserve(more int) {
-	if needed := int(it.count) + more; needed > len(it.memory) {
-		it.memory = append(make([]T, 0, needed+int(it.count)), it.get()...)
-		it.memory = it.memory[:cap(it.memory)]
+func (a *array[T]) reserve(more int) {
+	if needed := int(a.count) + more; needed > len(a.memory) {
+		a.memory = append(make([]T, 0, needed+int(a.count)), a.get()...)
+		a.memory = a.memory[:cap(a.memory)]
 	}
 }
 
@@ -70,50 +70,50 @@ type change struct {
 }
 
 // latestEpoch is 0 before the first entry.
-func (it *memory) latestEpoch() uint64 {
-	if it.count() == 0 {
+func (m *memory) latestEpoch() uint64 {
+	if m.count() == 0 {
 		return 0
 	}
-	return it.epochAt(it.count() - 1)
+	return m.epochAt(m.count() - 1)
 }
 
 // placeOf returns the place of an epoch, and one after all places if it is not kept.
-func (it *memory) placeOf(epoch uint64) int {
-	place := sort.Search(it.count(), func(at int) bool { return it.epochAt(at) >= epoch })
-	if place < it.count() && it.epochAt(place) != epoch {
-		return it.count()
+func (m *memory) placeOf(epoch uint64) int {
+	place := sort.Search(m.count(), func(at int) bool { return m.epochAt(at) >= epoch })
+	if place < m.count() && m.epochAt(place) != epoch {
+		return m.count()
 	}
 	return place
 }
 
-func (it *memory) count() int { return int(it.kept.count) }
+func (m *memory) count() int { return int(m.kept.count) }
 
 // entryAt returns a copy of the entry at a place.
-func (it *memory) entryAt(place int) []byte {
-	return copied(it.bytesAt(place)[:coniks.EntryBytes])
+func (m *memory) entryAt(place int) []byte {
+	return copied(m.bytesAt(place)[:coniks.EntryBytes])
 }
 
-func (it *memory) epochAt(place int) uint64 {
-	return binary.BigEndian.Uint64(it.bytesAt(place)[1:])
+func (m *memory) epochAt(place int) uint64 {
+	return binary.BigEndian.Uint64(m.bytesAt(place)[1:])
 }
 
-func (it *memory) firstSeenAt(place int) uint64 {
-	return binary.BigEndian.Uint64(it.bytesAt(place)[coniks.EntryBytes:])
+func (m *memory) firstSeenAt(place int) uint64 {
+	return binary.BigEndian.Uint64(m.bytesAt(place)[coniks.EntryBytes:])
 }
 
-func (it *memory) seenAt(place int) Watched { return Watched(it.kept.memory[place].seen) }
+func (m *memory) seenAt(place int) Watched { return Watched(m.kept.memory[place].seen) }
 
 // bytesAt returns the bytes of the kept epoch at a place.
-func (it *memory) bytesAt(place int) []byte {
-	return (*[C.sizeof_coniks_kept]byte)(unsafe.Pointer(&it.kept.memory[place]))[:]
+func (m *memory) bytesAt(place int) []byte {
+	return (*[C.sizeof_coniks_kept]byte)(unsafe.Pointer(&m.kept.memory[place]))[:]
 }
 
 // arena has copies that structs of C point at during one call, as the rules of cgo ask.
 type arena []unsafe.Pointer
 
 // text returns a copy of bytes.
-func (it *arena) text(bytes []byte) (*C.uint8_t, C.size_t) {
-	copies, length := copiedIn(it, bytes)
+func (a *arena) text(bytes []byte) (*C.uint8_t, C.size_t) {
+	copies, length := copiedIn(a, bytes)
 	return (*C.uint8_t)(copies), length
 }
 
@@ -128,20 +128,20 @@ func copiedIn[T any](in *arena, elements []T) (*T, C.size_t) {
 	return (*T)(copies), size(elements)
 }
 
-func (it *arena) free() {
-	for _, block := range *it {
+func (a *arena) free() {
+	for _, block := range *a {
 		C.free(block)
 	}
 }
 
 // watched returns the watch and the changes as the core takes them.
-func (it *memory) watched(in *arena) (watch C.coniks_watch, changes []C.coniks_change) {
-	if it.isWatched {
-		watch.is_watched, watch.since = 1, C.uint64_t(it.since)
-		watch.name, watch.name_length = in.text(it.name)
-		watch.key, watch.key_length = in.text(it.key)
+func (m *memory) watched(in *arena) (watch C.coniks_watch, changes []C.coniks_change) {
+	if m.isWatched {
+		watch.is_watched, watch.since = 1, C.uint64_t(m.since)
+		watch.name, watch.name_length = in.text(m.name)
+		watch.key, watch.key_length = in.text(m.key)
 	}
-	for _, one := range it.changes {
+	for _, one := range m.changes {
 		raw := C.coniks_change{last_old: C.uint64_t(one.lastOld), first_new: C.uint64_t(one.firstNew)}
 		raw.key, raw.key_length = in.text(one.key)
 		changes = append(changes, raw)
@@ -150,19 +150,19 @@ func (it *memory) watched(in *arena) (watch C.coniks_watch, changes []C.coniks_c
 }
 
 // take copies the watch and the changes that the core has written.
-func (it *memory) take(watch C.coniks_watch, changes []C.coniks_change) {
-	it.isWatched, it.since = watch.is_watched == 1, uint64(watch.since)
-	it.name, it.key = bytesOf(watch.name, watch.name_length), bytesOf(watch.key, watch.key_length)
-	it.changes = nil
+func (m *memory) take(watch C.coniks_watch, changes []C.coniks_change) {
+	m.isWatched, m.since = watch.is_watched == 1, uint64(watch.since)
+	m.name, m.key = bytesOf(watch.name, watch.name_length), bytesOf(watch.key, watch.key_length)
+	m.changes = nil
 	for _, raw := range changes {
-		it.changes = append(it.changes, change{uint64(raw.last_old), uint64(raw.first_new), bytesOf(raw.key, raw.key_length)})
+		m.changes = append(m.changes, change{uint64(raw.last_old), uint64(raw.first_new), bytesOf(raw.key, raw.key_length)})
 	}
 }
 
 // mark takes what the core has marked in the changes.
-func (it *memory) mark(changes []C.coniks_change) {
+func (m *memory) mark(changes []C.coniks_change) {
 	for at, raw := range changes {
-		it.changes[at].lastOld, it.changes[at].firstNew = uint64(raw.last_old), uint64(raw.first_new)
+		m.changes[at].lastOld, m.changes[at].firstNew = uint64(raw.last_old), uint64(raw.first_new)
 	}
 }
 
@@ -188,13 +188,13 @@ func size[T any](elements []T) C.size_t { return C.size_t(len(elements)) }
 
 func bytes32(bytes *[32]byte) *C.coniks_bytes32 { return (*C.coniks_bytes32)(unsafe.Pointer(bytes)) }
 
-func (it *memory) feed(policy *[32]byte, entry []byte, verdict C.uint32_t, now uint64) (status C.uint32_t, why C.coniks_why) {
+func (m *memory) feed(policy *[32]byte, entry []byte, verdict C.uint32_t, now uint64) (status C.uint32_t, why C.coniks_why) {
 	var in arena
 	defer in.free()
-	it.kept.reserve(1)
-	watch, _ := it.watched(&in)
-	status = C.coniks_core_feed(bytes32(policy), start(it.kept.memory), it.kept.room(), &it.kept.count, &watch, start(it.marks),
-		size(it.marks), text(entry), size(entry), verdict, C.uint64_t(now), &why)
+	m.kept.reserve(1)
+	watch, _ := m.watched(&in)
+	status = C.coniks_core_feed(bytes32(policy), start(m.kept.memory), m.kept.room(), &m.kept.count, &watch, start(m.marks),
+		size(m.marks), text(entry), size(entry), verdict, C.uint64_t(now), &why)
 	return status, why
 }
 
@@ -202,15 +202,15 @@ func (it *memory) feed(policy *[32]byte, entry []byte, verdict C.uint32_t, now u
 type taking func(policy *[32]byte, entry []byte, verdict C.uint32_t, now uint64) (status C.uint32_t, why C.coniks_why)
 
 // starting returns the call that takes the first entry, for which auditors have heads.
-func (it *memory) starting(heads map[string]coniks.Head, least int) taking {
+func (m *memory) starting(heads map[string]coniks.Head, least int) taking {
 	var rows []C.coniks_head
 	for _, head := range heads {
 		rows = append(rows, C.coniks_head{is_there: 1, epoch: C.uint64_t(head.Epoch), link: *bytes32(&head.Link)})
 	}
 	return func(policy *[32]byte, entry []byte, verdict C.uint32_t, now uint64) (status C.uint32_t, why C.coniks_why) {
 		var watch C.coniks_watch
-		it.kept.reserve(1)
-		status = C.coniks_core_start(bytes32(policy), start(it.kept.memory), it.kept.room(), &it.kept.count, &watch, start(rows),
+		m.kept.reserve(1)
+		status = C.coniks_core_start(bytes32(policy), start(m.kept.memory), m.kept.room(), &m.kept.count, &watch, start(rows),
 			size(rows), C.size_t(least), text(entry), size(entry), verdict, C.uint64_t(now), &why)
 		return status, why
 	}
@@ -226,8 +226,8 @@ func entriesOf(catchUp []byte) (entries [][]byte, status C.uint32_t) {
 	return entries, status
 }
 
-func (it *memory) replyNeeds(reply []byte) (status C.uint32_t, needs C.coniks_needs) {
-	status = C.coniks_core_reply_needs(start(it.kept.memory), it.kept.count, text(reply), size(reply), &needs)
+func (m *memory) replyNeeds(reply []byte) (status C.uint32_t, needs C.coniks_needs) {
+	status = C.coniks_core_reply_needs(start(m.kept.memory), m.kept.count, text(reply), size(reply), &needs)
 	return status, needs
 }
 
@@ -238,11 +238,11 @@ type shown struct {
 	seen  Watched
 }
 
-func (it *memory) lookup(policy *[32]byte, present C.coniks_present, name string, reply []byte, epoch *uint64,
+func (m *memory) lookup(policy *[32]byte, present C.coniks_present, name string, reply []byte, epoch *uint64,
 	verdicts C.coniks_verdicts) (status C.uint32_t, found shown, why C.coniks_why) {
 	var in arena
 	defer in.free()
-	watch, changes := it.watched(&in)
+	watch, changes := m.watched(&in)
 	var asking C.coniks_asking
 	var raw C.coniks_found
 	asking.name, asking.name_length = in.text([]byte(name))
@@ -250,9 +250,9 @@ func (it *memory) lookup(policy *[32]byte, present C.coniks_present, name string
 	if epoch != nil {
 		asking.is_asked, asking.epoch = 1, C.uint64_t(*epoch)
 	}
-	status = C.coniks_core_lookup(bytes32(policy), &present, start(it.kept.memory), it.kept.count, &watch, start(changes),
+	status = C.coniks_core_lookup(bytes32(policy), &present, start(m.kept.memory), m.kept.count, &watch, start(changes),
 		size(changes), &asking, &verdicts, &raw, &why)
-	it.mark(changes)
+	m.mark(changes)
 	found = shown{place: int(raw.place), seen: Watched(raw.seen)}
 	if raw.shows == showsKey {
 		found.key = copied(part(reply, raw.key_start, raw.key_length))
@@ -265,19 +265,19 @@ func historyNeeds(history []byte) (status C.uint32_t, needs C.coniks_history_nee
 	return status, needs
 }
 
-func (it *memory) history(name string, history []byte, verdicts C.coniks_verdicts) (status C.uint32_t, steps []shown) {
+func (m *memory) history(name string, history []byte, verdicts C.coniks_verdicts) (status C.uint32_t, steps []shown) {
 	var in arena
 	defer in.free()
-	watch, changes := it.watched(&in)
+	watch, changes := m.watched(&in)
 	var asking C.coniks_history
 	asking.name, asking.name_length = in.text([]byte(name))
 	asking.history, asking.history_length = in.text(history)
 	var siblings C.coniks_siblings
 	var count C.size_t
-	raw := make([]C.coniks_step, it.count()+1)
-	status = C.coniks_core_history(start(it.kept.memory), it.kept.count, &watch, start(changes), size(changes), &asking, &verdicts,
+	raw := make([]C.coniks_step, m.count()+1)
+	status = C.coniks_core_history(start(m.kept.memory), m.kept.count, &watch, start(changes), size(changes), &asking, &verdicts,
 		&siblings, start(raw), size(raw), &count)
-	it.mark(changes)
+	m.mark(changes)
 	for _, step := range raw[:count] {
 		one := shown{place: int(step.place), seen: Watched(step.seen)}
 		if step.shows == showsKey {
@@ -290,10 +290,10 @@ func (it *memory) history(name string, history []byte, verdicts C.coniks_verdict
 	return status, steps
 }
 
-func (it *memory) beginWatch(name string, key []byte, since *uint64) C.uint32_t {
+func (m *memory) beginWatch(name string, key []byte, since *uint64) C.uint32_t {
 	var in arena
 	defer in.free()
-	watch, changes := it.watched(&in)
+	watch, changes := m.watched(&in)
 	wanted := C.coniks_watch{is_watched: 1}
 	wanted.name, wanted.name_length = in.text([]byte(name))
 	wanted.key, wanted.key_length = in.text(key)
@@ -301,35 +301,35 @@ func (it *memory) beginWatch(name string, key []byte, since *uint64) C.uint32_t 
 	if since != nil {
 		wanted.since, isSince = C.uint64_t(*since), 1
 	}
-	status := C.coniks_core_watch(start(it.kept.memory), it.kept.count, &watch, start(changes), size(changes), &wanted, isSince)
+	status := C.coniks_core_watch(start(m.kept.memory), m.kept.count, &watch, start(changes), size(changes), &wanted, isSince)
 	if status == 0 {
-		it.take(watch, changes)
+		m.take(watch, changes)
 	}
 	return status
 }
 
-func (it *memory) expect(key []byte, by uint64) C.uint32_t {
+func (m *memory) expect(key []byte, by uint64) C.uint32_t {
 	var in arena
 	defer in.free()
-	watch, changes := it.watched(&in)
+	watch, changes := m.watched(&in)
 	count := size(changes)
 	changes = append(changes, C.coniks_change{})
 	at, length := in.text(key)
-	status := C.coniks_core_expect(start(it.kept.memory), it.kept.count, &watch, start(changes), size(changes), &count, at, length,
+	status := C.coniks_core_expect(start(m.kept.memory), m.kept.count, &watch, start(changes), size(changes), &count, at, length,
 		C.uint64_t(by))
 	if status == 0 {
-		it.take(watch, changes[:count])
+		m.take(watch, changes[:count])
 	}
 	return status
 }
 
-func (it *memory) compare(head coniks.Head) C.uint32_t {
+func (m *memory) compare(head coniks.Head) C.uint32_t {
 	var place C.size_t
-	return C.coniks_core_compare(start(it.kept.memory), it.kept.count, C.uint64_t(head.Epoch), bytes32(&head.Link), &place)
+	return C.coniks_core_compare(start(m.kept.memory), m.kept.count, C.uint64_t(head.Epoch), bytes32(&head.Link), &place)
 }
 
-func (it *memory) evidence(entry []byte, verdict C.uint32_t) (status C.uint32_t, why C.coniks_why) {
-	status = C.coniks_core_evidence(start(it.kept.memory), it.kept.count, text(entry), size(entry), verdict, &why)
+func (m *memory) evidence(entry []byte, verdict C.uint32_t) (status C.uint32_t, why C.coniks_why) {
+	status = C.coniks_core_evidence(start(m.kept.memory), m.kept.count, text(entry), size(entry), verdict, &why)
 	return status, why
 }
 
@@ -339,65 +339,65 @@ func quorumOf(auditors, faulty uint32) int {
 	return int(C.coniks_core_quorum(C.size_t(auditors), C.size_t(faulty)))
 }
 
-func (it *memory) markHead(auditor int, head coniks.Head) C.uint32_t {
-	return C.coniks_core_mark(start(it.kept.memory), it.kept.count, start(it.marks), size(it.marks), C.size_t(auditor),
+func (m *memory) markHead(auditor int, head coniks.Head) C.uint32_t {
+	return C.coniks_core_mark(start(m.kept.memory), m.kept.count, start(m.marks), size(m.marks), C.size_t(auditor),
 		C.uint64_t(head.Epoch), bytes32(&head.Link))
 }
 
-func (it *memory) confirmed(quorum int) (status C.uint32_t, epoch C.uint64_t) {
-	status = C.coniks_core_confirmed(start(it.marks), size(it.marks), C.size_t(quorum), &epoch)
+func (m *memory) confirmed(quorum int) (status C.uint32_t, epoch C.uint64_t) {
+	status = C.coniks_core_confirmed(start(m.marks), size(m.marks), C.size_t(quorum), &epoch)
 	return status, epoch
 }
 
-func (it *memory) relied(place, quorum int) C.uint32_t {
-	return C.coniks_core_relied(start(it.kept.memory), it.kept.count, C.size_t(place), start(it.marks), size(it.marks),
+func (m *memory) relied(place, quorum int) C.uint32_t {
+	return C.coniks_core_relied(start(m.kept.memory), m.kept.count, C.size_t(place), start(m.marks), size(m.marks),
 		C.size_t(quorum))
 }
 
 // cover drops epochs by marks, and returns how many went. There is room for an alarm of each.
-func (it *memory) cover(present C.coniks_present, promise C.coniks_promise, marks []C.uint64_t, quorum int) int {
+func (m *memory) cover(present C.coniks_present, promise C.coniks_promise, marks []C.uint64_t, quorum int) int {
 	var in arena
 	defer in.free()
-	it.alarms.reserve(it.count())
-	watch, changes := it.watched(&in)
+	m.alarms.reserve(m.count())
+	watch, changes := m.watched(&in)
 	count, covered := size(changes), C.coniks_covered{}
-	status := C.coniks_core_cover(&present, &promise, start(it.kept.memory), it.kept.room(), &it.kept.count, start(marks),
-		size(marks), C.size_t(quorum), &watch, start(changes), size(changes), &count, start(it.alarms.memory), it.alarms.room(),
-		&it.alarms.count, &covered)
+	status := C.coniks_core_cover(&present, &promise, start(m.kept.memory), m.kept.room(), &m.kept.count, start(marks),
+		size(marks), C.size_t(quorum), &watch, start(changes), size(changes), &count, start(m.alarms.memory), m.alarms.room(),
+		&m.alarms.count, &covered)
 	if status != 0 {
 		return 0
 	}
-	it.take(watch, changes[:count])
+	m.take(watch, changes[:count])
 	return int(covered.epochs)
 }
 
-func (it *memory) note(epoch uint64) C.uint32_t {
-	return C.coniks_core_note(start(it.alarms.memory), it.alarms.room(), &it.alarms.count, C.uint64_t(epoch))
+func (m *memory) note(epoch uint64) C.uint32_t {
+	return C.coniks_core_note(start(m.alarms.memory), m.alarms.room(), &m.alarms.count, C.uint64_t(epoch))
 }
 
-func (it *memory) report(present C.coniks_present, promise C.coniks_promise, quorum int) (status C.uint32_t, report C.coniks_report) {
+func (m *memory) report(present C.coniks_present, promise C.coniks_promise, quorum int) (status C.uint32_t, report C.coniks_report) {
 	var in arena
 	defer in.free()
-	watch, _ := it.watched(&in)
-	status = C.coniks_core_report(&present, start(it.kept.memory), it.kept.count, &watch, &promise, start(it.alarms.memory), it.alarms.count,
-		start(it.marks), size(it.marks), C.size_t(quorum), &report)
+	watch, _ := m.watched(&in)
+	status = C.coniks_core_report(&present, start(m.kept.memory), m.kept.count, &watch, &promise, start(m.alarms.memory), m.alarms.count,
+		start(m.marks), size(m.marks), C.size_t(quorum), &report)
 	return status, report
 }
 
-func (it *memory) isLost(present C.coniks_present, promise C.coniks_promise, place int) bool {
-	return C.coniks_core_lost(&present, &promise, start(it.kept.memory), it.kept.count, C.size_t(place)) == 1
+func (m *memory) isLost(present C.coniks_present, promise C.coniks_promise, place int) bool {
+	return C.coniks_core_lost(&present, &promise, start(m.kept.memory), m.kept.count, C.size_t(place)) == 1
 }
 
 // state returns the bytes of a state, nil if what is kept has none.
-func (it *memory) state(policy, trust *[32]byte) []byte {
+func (m *memory) state(policy, trust *[32]byte) []byte {
 	var in arena
 	defer in.free()
-	watch, changes := it.watched(&in)
+	watch, changes := m.watched(&in)
 	saved := C.coniks_saved{watch: watch, trust: *bytes32(trust)}
-	saved.kept, saved.count = copiedIn(&in, it.kept.get())
+	saved.kept, saved.count = copiedIn(&in, m.kept.get())
 	saved.changes, saved.change_count = copiedIn(&in, changes)
-	saved.alarms, saved.alarm_count = copiedIn(&in, it.alarms.get())
-	saved.marks, saved.mark_count = copiedIn(&in, it.marks)
+	saved.alarms, saved.alarm_count = copiedIn(&in, m.alarms.get())
+	saved.marks, saved.mark_count = copiedIn(&in, m.marks)
 	var length C.size_t
 	if C.coniks_core_state_size(bytes32(policy), &saved, &length) != 0 {
 		return nil
@@ -415,20 +415,20 @@ func stateNeeds(policy *[32]byte, state []byte) (status C.uint32_t, needs C.coni
 }
 
 // read takes what a state has, which needs so much room.
-func (it *memory) read(policy, trust *[32]byte, state []byte, needs C.coniks_state_needs, verdicts []C.uint32_t) C.uint32_t {
+func (m *memory) read(policy, trust *[32]byte, state []byte, needs C.coniks_state_needs, verdicts []C.uint32_t) C.uint32_t {
 	var in arena
 	defer in.free()
-	it.kept.reserve(int(needs.kept))
-	it.alarms.reserve(int(needs.alarms))
+	m.kept.reserve(int(needs.kept))
+	m.alarms.reserve(int(needs.alarms))
 	var watch C.coniks_watch
 	var count C.size_t
 	changes := make([]C.coniks_change, int(needs.changes))
 	at, length := in.text(state)
 	status := C.coniks_core_state_read(bytes32(policy), at, length, start(verdicts), size(verdicts), bytes32(trust),
-		start(it.kept.memory), it.kept.room(), &it.kept.count, &watch, start(changes), size(changes), &count,
-		start(it.alarms.memory), it.alarms.room(), &it.alarms.count, start(it.marks), size(it.marks))
+		start(m.kept.memory), m.kept.room(), &m.kept.count, &watch, start(changes), size(changes), &count,
+		start(m.alarms.memory), m.alarms.room(), &m.alarms.count, start(m.marks), size(m.marks))
 	if status == 0 {
-		it.take(watch, changes[:count])
+		m.take(watch, changes[:count])
 	}
 	return status
 }

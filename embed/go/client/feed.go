@@ -27,114 +27,114 @@ const (
 // Feed accepts entries that continue the chain, 209 bytes each, or the latest one signed again. It returns a *Refusal at the first one that
 // does not, and no steps; the entries before it are kept. After PreviousLink get the latest entry once more, and feed it before the next
 // one: it may have been signed again.
-func (it *Client) Feed(entries [][]byte) ([]Step, error) {
-	defer it.locked()()
+func (c *Client) Feed(entries [][]byte) ([]Step, error) {
+	defer c.locked()()
 	steps := make([]Step, 0, len(entries))
 	for _, entry := range entries {
-		if err := it.accept(copied(entry), it.memory.feed); err != nil {
+		if err := c.accept(copied(entry), c.memory.feed); err != nil {
 			return nil, err
 		}
-		steps = append(steps, Step{it.memory.latestEpoch(), it.memory.seenAt(it.memory.count() - 1)})
+		steps = append(steps, Step{c.memory.latestEpoch(), c.memory.seenAt(c.memory.count() - 1)})
 	}
 	return steps, nil
 }
 
 // FeedCatchUp accepts the entries of a catch-up, as Feed does. Bytes that are no catch-up are refused as a whole.
-func (it *Client) FeedCatchUp(catchUp []byte) ([]Step, error) {
+func (c *Client) FeedCatchUp(catchUp []byte) ([]Step, error) {
 	entries, status := entriesOf(catchUp)
 	if status != 0 {
 		return nil, refusal(Cause(status))
 	}
-	return it.Feed(entries)
+	return c.Feed(entries)
 }
 
 // accept verifies an entry, and lets the core take it.
-func (it *Client) accept(entry []byte, take taking) error {
-	now, err := it.clock.now()
+func (c *Client) accept(entry []byte, take taking) error {
+	now, err := c.clock.now()
 	if err != nil {
 		return err
 	}
-	status, why := take(&it.digest, entry, it.entryVerdict(entry), uint64(now.Unix()))
-	return it.accepted(status, why, entry)
+	status, why := take(&c.digest, entry, c.entryVerdict(entry), uint64(now.Unix()))
+	return c.accepted(status, why, entry)
 }
 
 // accepted returns what a status says of an entry, with what convicts together with it.
-func (it *Client) accepted(status C.uint32_t, why C.coniks_why, entry []byte) error {
+func (c *Client) accepted(status C.uint32_t, why C.coniks_why, entry []byte) error {
 	switch status {
 	case 0:
 		return nil
 	case manyHeads:
-		return it.memory.misuse(status, "")
+		return c.memory.misuse(status, "")
 	}
 	err := refusal(Cause(status))
 	if why.status != 0 {
 		err.Status = coniks.Refused(why.status)
 	}
-	err.Evidence = it.evidence(why, entry)
+	err.Evidence = c.evidence(why, entry)
 	return err
 }
 
 // evidence returns what convicts together with an entry, nil if nothing does.
-func (it *Client) evidence(why C.coniks_why, entry []byte) *Evidence {
+func (c *Client) evidence(why C.coniks_why, entry []byte) *Evidence {
 	if why.kind == 0 {
 		return nil
 	}
 	mine := entry
-	if place := int(why.mine); place >= 0 && place < it.memory.count() {
-		mine = it.memory.entryAt(place)
+	if place := int(why.mine); place >= 0 && place < c.memory.count() {
+		mine = c.memory.entryAt(place)
 	}
 	return &Evidence{Mine: mine, Other: copied(entry), Kind: coniks.EvidenceKind(why.kind)}
 }
 
 // Entries returns the entries that are kept, in the order of the chain.
-func (it *Client) Entries() [][]byte {
-	defer it.locked()()
-	entries := make([][]byte, 0, it.memory.count())
-	for place := 0; place < it.memory.count(); place++ {
-		entries = append(entries, it.memory.entryAt(place))
+func (c *Client) Entries() [][]byte {
+	defer c.locked()()
+	entries := make([][]byte, 0, c.memory.count())
+	for place := 0; place < c.memory.count(); place++ {
+		entries = append(entries, c.memory.entryAt(place))
 	}
 	return entries
 }
 
 // Head returns the epoch and the link of the latest entry, nil before the first.
-func (it *Client) Head() *coniks.Head {
-	defer it.locked()()
-	if it.memory.count() == 0 {
+func (c *Client) Head() *coniks.Head {
+	defer c.locked()()
+	if c.memory.count() == 0 {
 		return nil
 	}
-	link, err := coniks.Link(it.memory.entryAt(it.memory.count() - 1))
+	link, err := coniks.Link(c.memory.entryAt(c.memory.count() - 1))
 	if err != nil {
 		return nil
 	}
-	return &coniks.Head{Epoch: it.memory.latestEpoch(), Link: link}
+	return &coniks.Head{Epoch: c.memory.latestEpoch(), Link: link}
 }
 
 // Compare returns whether a head is one of the chain, as far as its entries are kept.
-func (it *Client) Compare(head coniks.Head) Comparison {
-	defer it.locked()()
-	return Comparison(it.memory.compare(head))
+func (c *Client) Compare(head coniks.Head) Comparison {
+	defer c.locked()()
+	return Comparison(c.memory.compare(head))
 }
 
 // Cover drops the entries before that of an auditor's head, if Compare finds it equal: the auditor's chain has them. Epochs that are
 // missing and not lost stay, with what follows them. Each dropped watched epoch that was not the same leaves an alarm. With Trust in the
 // Settings it only compares, since one auditor confirms nothing: call Mark and Drop.
-func (it *Client) Cover(head coniks.Head) Comparison {
-	defer it.locked()()
-	found := Comparison(it.memory.compare(head))
-	if found == Equal && it.quorum == 0 {
-		it.drop([]C.uint64_t{C.uint64_t(head.Epoch)}, 1)
+func (c *Client) Cover(head coniks.Head) Comparison {
+	defer c.locked()()
+	found := Comparison(c.memory.compare(head))
+	if found == Equal && c.quorum == 0 {
+		c.drop([]C.uint64_t{C.uint64_t(head.Epoch)}, 1)
 	}
 	return found
 }
 
 // Evidence returns what convicts the provider together with another one's entry, nil if nothing does. It returns a *Refusal if the
 // entry is not signed.
-func (it *Client) Evidence(otherEntry []byte) (*Evidence, error) {
-	defer it.locked()()
+func (c *Client) Evidence(otherEntry []byte) (*Evidence, error) {
+	defer c.locked()()
 	entry := copied(otherEntry)
-	status, why := it.memory.evidence(entry, it.entryVerdict(entry))
+	status, why := c.memory.evidence(entry, c.entryVerdict(entry))
 	if status != noEvidence {
-		return it.evidence(why, entry), refused(status)
+		return c.evidence(why, entry), refused(status)
 	}
 	kind, err := coniks.Convicts(entry, entry)
 	if err != nil || kind == coniks.NoEvidence {

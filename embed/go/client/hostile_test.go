@@ -26,9 +26,9 @@ type scheme struct {
 	index  func(name string, proof []byte) ([32]byte, bool)
 }
 
-func (it scheme) Verify(body, signature []byte) bool { return it.verify(body, signature) }
+func (s scheme) Verify(body, signature []byte) bool { return s.verify(body, signature) }
 
-func (it scheme) Index(name string, proof []byte) ([32]byte, bool) { return it.index(name, proof) }
+func (s scheme) Index(name string, proof []byte) ([32]byte, bool) { return s.index(name, proof) }
 
 // renewed appends the digest of a state.
 func renewed(parts ...[]byte) []byte {

@@ -25,63 +25,63 @@ type Found struct {
 }
 
 // Lookup returns what a reply shows of a name at the latest epoch. It returns nil with a *Refusal.
-func (it *Client) Lookup(name string, reply []byte) (*Found, error) {
-	return it.lookup(name, reply, nil)
+func (c *Client) Lookup(name string, reply []byte) (*Found, error) {
+	return c.lookup(name, reply, nil)
 }
 
 // LookupAt is Lookup at an older epoch, or the latest one by its number: it does not check how old that is. The number is one that
 // the caller has chosen, never that of the reply.
-func (it *Client) LookupAt(name string, reply []byte, epoch uint64) (*Found, error) {
-	return it.lookup(name, reply, &epoch)
+func (c *Client) LookupAt(name string, reply []byte, epoch uint64) (*Found, error) {
+	return c.lookup(name, reply, &epoch)
 }
 
-func (it *Client) lookup(name string, whole []byte, epoch *uint64) (*Found, error) {
-	defer it.locked()()
+func (c *Client) lookup(name string, whole []byte, epoch *uint64) (*Found, error) {
+	defer c.locked()()
 	reply := copied(whole)
-	status, needs := it.memory.replyNeeds(reply)
+	status, needs := c.memory.replyNeeds(reply)
 	if status != 0 {
 		return nil, refusal(Cause(status))
 	}
-	now, err := it.clock.now()
+	now, err := c.clock.now()
 	if err != nil {
 		return nil, err
 	}
-	verdicts := it.replyVerdicts(name, reply, needs)
-	status, shown, why := it.memory.lookup(&it.digest, it.clock.at(now), name, reply, epoch, verdicts)
-	if err := it.accepted(status, why, part(reply, needs.entry_start, coniks.EntryBytes)); err != nil {
+	verdicts := c.replyVerdicts(name, reply, needs)
+	status, shown, why := c.memory.lookup(&c.digest, c.clock.at(now), name, reply, epoch, verdicts)
+	if err := c.accepted(status, why, part(reply, needs.entry_start, coniks.EntryBytes)); err != nil {
 		return nil, err
 	}
-	found := it.found(shown, now)
+	found := c.found(shown, now)
 	return &found, nil
 }
 
 // History returns what a history shows of a name, for each of its epochs in their order. It returns nil with a *Refusal, and then
 // keeps nothing of the history.
-func (it *Client) History(name string, whole []byte) ([]Found, error) {
-	defer it.locked()()
+func (c *Client) History(name string, whole []byte) ([]Found, error) {
+	defer c.locked()()
 	history := copied(whole)
 	status, needs := historyNeeds(history)
 	if status != 0 {
 		return nil, refusal(Cause(status))
 	}
-	now, err := it.clock.now()
+	now, err := c.clock.now()
 	if err != nil {
 		return nil, err
 	}
-	verdicts := it.indexVerdict(name, part(history, needs.vrf_start, needs.vrf_length))
-	status, steps := it.memory.history(name, history, verdicts)
+	verdicts := c.indexVerdict(name, part(history, needs.vrf_start, needs.vrf_length))
+	status, steps := c.memory.history(name, history, verdicts)
 	if status != 0 {
 		return nil, refusal(Cause(status))
 	}
 	found := make([]Found, 0, len(steps))
 	for _, step := range steps {
-		found = append(found, it.found(step, now))
+		found = append(found, c.found(step, now))
 	}
 	return found, nil
 }
 
 // found returns what is shown, with what the client knows of its epoch.
-func (it *Client) found(what shown, now time.Time) Found {
-	epoch := it.memory.epochAt(what.place)
-	return Found{epoch, what.key, what.seen, it.clock.duration(epoch, now), it.memory.firstSeenAt(what.place)}
+func (c *Client) found(what shown, now time.Time) Found {
+	epoch := c.memory.epochAt(what.place)
+	return Found{epoch, what.key, what.seen, c.clock.duration(epoch, now), c.memory.firstSeenAt(what.place)}
 }

@@ -25,7 +25,7 @@ type IndexScheme interface {
 // ed25519Key is a public key that was checked.
 type ed25519Key []byte
 
-func (it ed25519Key) Verify(body, signature []byte) bool { return isSigned(it, body, signature) }
+func (k ed25519Key) Verify(body, signature []byte) bool { return isSigned(k, body, signature) }
 
 // vrfKey is a public key of the VRF that was checked, and its encoding.
 type vrfKey struct {
@@ -33,8 +33,8 @@ type vrfKey struct {
 	public []byte
 }
 
-func (it vrfKey) Index(name string, proof []byte) (index [32]byte, isValid bool) {
-	output, isValid := vrfOutput(it.point, it.public, name, proof)
+func (k vrfKey) Index(name string, proof []byte) (index [32]byte, isValid bool) {
+	output, isValid := vrfOutput(k.point, k.public, name, proof)
 	copy(index[:], output[:32])
 	return index, isValid
 }
@@ -45,28 +45,28 @@ type noVRF struct{}
 func (noVRF) Index(string, []byte) (index [32]byte, isValid bool) { return index, false }
 
 // schemes returns what verifies signatures and indices. The keys must be points of prime order, and those of the policy document.
-func (it *Settings) schemes() (SignatureScheme, IndexScheme, error) {
+func (s *Settings) schemes() (SignatureScheme, IndexScheme, error) {
 	switch {
-	case (it.SigningKey == nil) == (it.Signatures == nil):
+	case (s.SigningKey == nil) == (s.Signatures == nil):
 		return nil, nil, errors.New("SigningKey and Signatures are both missing or both set: set one of them")
-	case it.VRFKey != nil && it.Indices != nil:
+	case s.VRFKey != nil && s.Indices != nil:
 		return nil, nil, errors.New("VRFKey and Indices are both set: set one of them")
 	}
-	signatures, indices := it.Signatures, it.Indices
+	signatures, indices := s.Signatures, s.Indices
 	if signatures == nil {
-		if decodeKey(it.SigningKey) == nil {
+		if decodeKey(s.SigningKey) == nil {
 			return nil, nil, refusal(SigningKey)
 		}
-		signatures = ed25519Key(append([]byte(nil), it.SigningKey...))
+		signatures = ed25519Key(append([]byte(nil), s.SigningKey...))
 	}
-	if it.VRFKey != nil {
-		point := decodeKey(it.VRFKey)
+	if s.VRFKey != nil {
+		point := decodeKey(s.VRFKey)
 		if point == nil {
 			return nil, nil, refusal(VRFKey)
 		}
-		indices = vrfKey{point, append([]byte(nil), it.VRFKey...)}
+		indices = vrfKey{point, append([]byte(nil), s.VRFKey...)}
 	}
-	if it.Policy != nil && !it.hasKeysOf(it.Policy) {
+	if s.Policy != nil && !s.hasKeysOf(s.Policy) {
 		return nil, nil, refusal(PolicyKeys)
 	}
 	if indices == nil {
@@ -76,15 +76,15 @@ func (it *Settings) schemes() (SignatureScheme, IndexScheme, error) {
 }
 
 // hasKeysOf reports whether the keys are those of a policy document. A scheme in place of a key is its caller's choice.
-func (it *Settings) hasKeysOf(policy *coniks.Policy) bool {
-	if it.Signatures == nil && string(it.SigningKey) != string(policy.SigningKey[:]) {
+func (s *Settings) hasKeysOf(policy *coniks.Policy) bool {
+	if s.Signatures == nil && string(s.SigningKey) != string(policy.SigningKey[:]) {
 		return false
 	}
-	if it.Indices != nil {
+	if s.Indices != nil {
 		return true
 	}
-	if it.VRFKey == nil || policy.VRFKey == nil {
-		return it.VRFKey == nil && policy.VRFKey == nil
+	if s.VRFKey == nil || policy.VRFKey == nil {
+		return s.VRFKey == nil && policy.VRFKey == nil
 	}
-	return string(it.VRFKey) == string(policy.VRFKey[:])
+	return string(s.VRFKey) == string(policy.VRFKey[:])
 }

@@ -13,35 +13,35 @@ import (
 // proves nothing about signatures: an entry or an index that is wrongly taken for valid here is accepted.
 
 // entryVerdict is the verdict on the signature of an entry. Bytes of another length have none.
-func (it *Client) entryVerdict(entry []byte) C.uint32_t {
-	if len(entry) == coniks.EntryBytes && it.signatures.Verify(copied(entry[:coniks.BodyBytes]), copied(entry[coniks.BodyBytes:])) {
+func (c *Client) entryVerdict(entry []byte) C.uint32_t {
+	if len(entry) == coniks.EntryBytes && c.signatures.Verify(copied(entry[:coniks.BodyBytes]), copied(entry[coniks.BodyBytes:])) {
 		return 1
 	}
 	return 0
 }
 
 // replyVerdicts are those on the signature of a reply's entry, if it is needed, and on the VRF proof.
-func (it *Client) replyVerdicts(name string, reply []byte, needs C.coniks_needs) C.coniks_verdicts {
-	verdicts := it.indexVerdict(name, part(reply, needs.vrf_start, needs.vrf_length))
+func (c *Client) replyVerdicts(name string, reply []byte, needs C.coniks_needs) C.coniks_verdicts {
+	verdicts := c.indexVerdict(name, part(reply, needs.vrf_start, needs.vrf_length))
 	if needs.signature == 1 {
-		verdicts.signature = it.entryVerdict(part(reply, needs.entry_start, coniks.EntryBytes))
+		verdicts.signature = c.entryVerdict(part(reply, needs.entry_start, coniks.EntryBytes))
 	}
 	return verdicts
 }
 
 // indexVerdict is that on the VRF proof of a name, with the index.
-func (it *Client) indexVerdict(name string, proof []byte) (verdicts C.coniks_verdicts) {
-	if index, isValid := it.indices.Index(name, proof); isValid {
+func (c *Client) indexVerdict(name string, proof []byte) (verdicts C.coniks_verdicts) {
+	if index, isValid := c.indices.Index(name, proof); isValid {
 		verdicts.index, verdicts.at = 1, *(*C.coniks_bytes32)(unsafe.Pointer(&index))
 	}
 	return verdicts
 }
 
 // stateVerdicts are those on the signatures of the entries of a state.
-func (it *Client) stateVerdicts(state []byte, needs C.coniks_state_needs) []C.uint32_t {
+func (c *Client) stateVerdicts(state []byte, needs C.coniks_state_needs) []C.uint32_t {
 	verdicts := make([]C.uint32_t, 0, int(needs.kept)+1)
 	for at := C.size_t(0); at < needs.kept; at++ {
-		verdicts = append(verdicts, it.entryVerdict(part(state, needs.entry_start+at*needs.entry_step, coniks.EntryBytes)))
+		verdicts = append(verdicts, c.entryVerdict(part(state, needs.entry_start+at*needs.entry_step, coniks.EntryBytes)))
 	}
 	return verdicts
 }

@@ -58,78 +58,78 @@ func isEmpty(key []byte) bool { return key != nil && len(key) == 0 }
 // Watch watches the client's own name: each epoch from the latest on, from 1 on without an entry, must show the key, or none if it is
 // nil. A client watches one name for its life. The same call once more changes nothing; one with another name or key returns an
 // error.
-func (it *Client) Watch(name string, key []byte) error { return it.watchFrom(name, key, nil) }
+func (c *Client) Watch(name string, key []byte) error { return c.watchFrom(name, key, nil) }
 
 // WatchSince is Watch from an epoch on.
-func (it *Client) WatchSince(name string, key []byte, since uint64) error {
-	return it.watchFrom(name, key, &since)
+func (c *Client) WatchSince(name string, key []byte, since uint64) error {
+	return c.watchFrom(name, key, &since)
 }
 
-func (it *Client) watchFrom(name string, key []byte, since *uint64) error {
-	defer it.locked()()
+func (c *Client) watchFrom(name string, key []byte, since *uint64) error {
+	defer c.locked()()
 	if isEmpty(key) && len(name) > 0 && len(name) <= 255 {
 		return errEmptyKey
 	}
-	return it.memory.misuse(it.memory.beginWatch(name, key, since), name)
+	return c.memory.misuse(c.memory.beginWatch(name, key, since), name)
 }
 
 // Expect expects the owner's own change of the key, to none if it is nil: later epochs may show the old or the new key, and from
 // epoch `by` on only the new one. No epoch may show the old key after one that showed the new key. It returns an error if no name is
 // watched, and while another change is open: until the chain has its epoch `by` or a later one, or an epoch showed its key.
-func (it *Client) Expect(key []byte, by uint64) error {
-	defer it.locked()()
-	if isEmpty(key) && it.memory.isWatched {
+func (c *Client) Expect(key []byte, by uint64) error {
+	defer c.locked()()
+	if isEmpty(key) && c.memory.isWatched {
 		return errEmptyKey
 	}
-	return it.memory.misuse(it.memory.expect(key, by), "")
+	return c.memory.misuse(c.memory.expect(key, by), "")
 }
 
 // Missing returns the epochs that must show the watched name, and of which no reply was accepted.
-func (it *Client) Missing() []uint64 {
-	defer it.locked()()
-	return it.missing(func(int) bool { return true })
+func (c *Client) Missing() []uint64 {
+	defer c.locked()()
+	return c.missing(func(int) bool { return true })
 }
 
 // Lost returns the missing epochs of which the policy promises no proof any more, by the Clock of the Settings. Report that they can
 // no longer be verified, never that they are the same.
-func (it *Client) Lost() []uint64 {
-	defer it.locked()()
-	present, promise := it.clock.at(it.clock.read()), it.clock.promise
-	return it.missing(func(place int) bool { return it.memory.isLost(present, promise, place) })
+func (c *Client) Lost() []uint64 {
+	defer c.locked()()
+	present, promise := c.clock.at(c.clock.read()), c.clock.promise
+	return c.missing(func(place int) bool { return c.memory.isLost(present, promise, place) })
 }
 
 // missing returns the missing epochs at some places.
-func (it *Client) missing(isWanted func(place int) bool) (epochs []uint64) {
-	for place := 0; place < it.memory.count(); place++ {
-		if it.memory.seenAt(place) == Missing && isWanted(place) {
-			epochs = append(epochs, it.memory.epochAt(place))
+func (c *Client) missing(isWanted func(place int) bool) (epochs []uint64) {
+	for place := 0; place < c.memory.count(); place++ {
+		if c.memory.seenAt(place) == Missing && isWanted(place) {
+			epochs = append(epochs, c.memory.epochAt(place))
 		}
 	}
 	return epochs
 }
 
 // Alarms returns the alarms of dropped epochs, until their owner takes note of them.
-func (it *Client) Alarms() []Alarm {
-	defer it.locked()()
+func (c *Client) Alarms() []Alarm {
+	defer c.locked()()
 	var alarms []Alarm
-	for _, one := range it.memory.alarms.get() {
+	for _, one := range c.memory.alarms.get() {
 		alarms = append(alarms, Alarm{uint64(one.epoch), Watched(one.seen)})
 	}
 	return alarms
 }
 
 // Note takes note of the alarms up to an epoch, which the owner has seen: they are dropped.
-func (it *Client) Note(epoch uint64) {
-	defer it.locked()()
-	it.memory.note(epoch)
+func (c *Client) Note(epoch uint64) {
+	defer c.locked()()
+	c.memory.note(epoch)
 }
 
 // Report returns what to tell the owner of the watched name, or an error if none is watched. Without Trust in the Settings it is never
 // ReportGood.
-func (it *Client) Report() (Report, error) {
-	defer it.locked()()
-	status, report := it.memory.report(it.clock.at(it.clock.read()), it.clock.promise, it.quorum)
-	if err := it.memory.misuse(status, ""); err != nil {
+func (c *Client) Report() (Report, error) {
+	defer c.locked()()
+	status, report := c.memory.report(c.clock.at(c.clock.read()), c.clock.promise, c.quorum)
+	if err := c.memory.misuse(status, ""); err != nil {
 		return Report{}, err
 	}
 	return Report{Verdict(report.verdict), uint64(report.from), uint64(report.to)}, nil
@@ -137,27 +137,27 @@ func (it *Client) Report() (Report, error) {
 
 // Mark compares a head that an auditor cosigned, as Compare does, and remembers its epoch if they are equal. The auditor is the one at
 // this place of the trust document, from 0 on. Verify the cosignature first. It returns an error if there is no such auditor.
-func (it *Client) Mark(auditor int, head coniks.Head) (Comparison, error) {
-	defer it.locked()()
-	found := it.memory.markHead(auditor, head)
+func (c *Client) Mark(auditor int, head coniks.Head) (Comparison, error) {
+	defer c.locked()()
+	found := c.memory.markHead(auditor, head)
 	if found == noAuditor {
-		return 0, it.memory.misuse(found, "")
+		return 0, c.memory.misuse(found, "")
 	}
 	return Comparison(found), nil
 }
 
 // Confirmed returns the latest epoch that a quorum of the auditors confirms, and whether there is one.
-func (it *Client) Confirmed() (epoch uint64, isThere bool) {
-	defer it.locked()()
-	status, found := it.memory.confirmed(it.quorum)
+func (c *Client) Confirmed() (epoch uint64, isThere bool) {
+	defer c.locked()()
+	status, found := c.memory.confirmed(c.quorum)
 	return uint64(found), status == 0
 }
 
 // IsRelied returns whether a quorum of the auditors confirms a kept epoch, for example that of what was found. It returns a *Refusal
 // if the epoch is not kept.
-func (it *Client) IsRelied(epoch uint64) (bool, error) {
-	defer it.locked()()
-	status := it.memory.relied(it.memory.placeOf(epoch), it.quorum)
+func (c *Client) IsRelied(epoch uint64) (bool, error) {
+	defer c.locked()()
+	status := c.memory.relied(c.memory.placeOf(epoch), c.quorum)
 	if status == notConfirmed {
 		return false, nil
 	}
@@ -166,15 +166,15 @@ func (it *Client) IsRelied(epoch uint64) (bool, error) {
 
 // Drop drops the first epochs: those before the confirmed one, and before the first missing one that is not lost. It returns them. Each
 // watched one that was not seen as the same leaves an alarm. No reply for a dropped epoch is accepted: ask for missing ones first.
-func (it *Client) Drop() []uint64 {
-	defer it.locked()()
-	return it.drop(it.memory.marks, it.quorum)
+func (c *Client) Drop() []uint64 {
+	defer c.locked()()
+	return c.drop(c.memory.marks, c.quorum)
 }
 
-func (it *Client) drop(marks []C.uint64_t, quorum int) []uint64 {
-	epochs := make([]uint64, it.memory.count())
+func (c *Client) drop(marks []C.uint64_t, quorum int) []uint64 {
+	epochs := make([]uint64, c.memory.count())
 	for place := range epochs {
-		epochs[place] = it.memory.epochAt(place)
+		epochs[place] = c.memory.epochAt(place)
 	}
-	return epochs[:it.memory.cover(it.clock.at(it.clock.read()), it.clock.promise, marks, quorum)]
+	return epochs[:c.memory.cover(c.clock.at(c.clock.read()), c.clock.promise, marks, quorum)]
 }

@@ -52,18 +52,18 @@ func TestSeen(t *testing.T) {
 }
 
 // sees looks alice up at an epoch, and compares what that shows of her key.
-func (it *world) sees(t *testing.T, made *Client, epoch uint64, wanted Watched) {
+func (w *world) sees(t *testing.T, made *Client, epoch uint64, wanted Watched) {
 	t.Helper()
-	found, err := made.LookupAt("alice", it.reply(epoch), epoch)
+	found, err := made.LookupAt("alice", w.reply(epoch), epoch)
 	if err != nil || found.Seen != wanted {
 		t.Errorf("epoch %d: %v, %v", epoch, found, err)
 	}
 }
 
 // feed feeds the epochs after one up to another one.
-func (it *world) feed(t *testing.T, made *Client, after, last int) {
+func (w *world) feed(t *testing.T, made *Client, after, last int) {
 	t.Helper()
-	_, err := made.Feed(it.chain[after:last])
+	_, err := made.Feed(w.chain[after:last])
 	good(t, err)
 }
 

@@ -154,37 +154,37 @@ func worldOf(t testing.TB, keys string, policy coniks.Policy) *world {
 	return it
 }
 
-func (it *world) sign(body coniks.Body) []byte {
+func (w *world) sign(body coniks.Body) []byte {
 	text := body.Bytes()
-	return append(text[:], ed25519.Sign(it.signing, text[:])...)
+	return append(text[:], ed25519.Sign(w.signing, text[:])...)
 }
 
-func (it *world) reply(epoch uint64) []byte {
-	return bytes.Join([][]byte{{1}, it.entries[epoch], {0, 0}, it.proofs[epoch]}, nil)
+func (w *world) reply(epoch uint64) []byte {
+	return bytes.Join([][]byte{{1}, w.entries[epoch], {0, 0}, w.proofs[epoch]}, nil)
 }
 
-func (it *world) head(epoch uint64) coniks.Head {
-	return coniks.Head{Epoch: epoch, Link: sha256.Sum256(append([]byte{0x53}, it.entries[epoch]...))}
+func (w *world) head(epoch uint64) coniks.Head {
+	return coniks.Head{Epoch: epoch, Link: sha256.Sum256(append([]byte{0x53}, w.entries[epoch]...))}
 }
 
 // start is when an epoch begins.
-func (it *world) start(epoch uint64) time.Time { return time.Unix(int64(1000+(epoch-1)*hour), 0) }
+func (w *world) start(epoch uint64) time.Time { return time.Unix(int64(1000+(epoch-1)*hour), 0) }
 
 // settings are those of a client at a time within an epoch.
-func (it *world) settings(epoch uint64) Settings {
-	now := it.start(epoch).Add(10 * time.Minute)
-	policy := it.policy
+func (w *world) settings(epoch uint64) Settings {
+	now := w.start(epoch).Add(10 * time.Minute)
+	policy := w.policy
 	return Settings{
 		SigningKey: copied(policy.SigningKey[:]), Indices: named{}, Policy: &policy, Clock: func() time.Time { return now },
 	}
 }
 
 // client is a client that is fed the first epochs.
-func (it *world) client(t testing.TB, epochs int) *Client {
+func (w *world) client(t testing.TB, epochs int) *Client {
 	t.Helper()
-	made, err := New(it.settings(uint64(epochs)))
+	made, err := New(w.settings(uint64(epochs)))
 	good(t, err)
-	_, err = made.Feed(it.chain[:epochs])
+	_, err = made.Feed(w.chain[:epochs])
 	good(t, err)
 	return made
 }

@@ -67,31 +67,31 @@ func headOf(epoch, link string) (head coniks.Head, err error) {
 }
 
 // settings reads the first six words of `begin` and `vouched`, and sets the clock.
-func (it *program) settings(words []string) (client.Settings, error) {
-	trust := it.trust
-	it.client, it.now, it.trust = nil, time.Unix(int64(number(words[0])), 0), nil
+func (p *program) settings(words []string) (client.Settings, error) {
+	trust := p.trust
+	p.client, p.now, p.trust = nil, time.Unix(int64(number(words[0])), 0), nil
 	policy, err := coniks.ReadPolicy(data(words[5]))
 	return client.Settings{
 		MaxAge: seconds(words[1]), Skew: seconds(words[2]), SigningKey: data(words[3]), VRFKey: data(words[4]), Policy: &policy,
-		Clock: func() time.Time { return it.now }, Trust: trust,
+		Clock: func() time.Time { return p.now }, Trust: trust,
 	}, err
 }
 
-func (it *program) begin(words []string) (string, error) {
-	settings, err := it.settings(words)
+func (p *program) begin(words []string) (string, error) {
+	settings, err := p.settings(words)
 	if err != nil {
 		return "", err
 	}
 	if state := data(words[6]); state != nil {
-		it.client, err = client.Resume(settings, state)
+		p.client, err = client.Resume(settings, state)
 	} else {
-		it.client, err = client.New(settings)
+		p.client, err = client.New(settings)
 	}
 	return "begun", err
 }
 
-func (it *program) vouched(words []string) (string, error) {
-	settings, err := it.settings(words)
+func (p *program) vouched(words []string) (string, error) {
+	settings, err := p.settings(words)
 	if err != nil {
 		return "", err
 	}
@@ -102,7 +102,7 @@ func (it *program) vouched(words []string) (string, error) {
 			return "", err
 		}
 	}
-	it.client, err = client.Vouched(settings, data(words[6]), heads, int(number(words[7])))
+	p.client, err = client.Vouched(settings, data(words[6]), heads, int(number(words[7])))
 	return "begun", err
 }
 
@@ -121,12 +121,12 @@ func fed(steps []client.Step, err error) (string, error) {
 	return text, err
 }
 
-func (it *program) feed(words []string) (string, error) {
+func (p *program) feed(words []string) (string, error) {
 	var entries [][]byte
 	for _, word := range words {
 		entries = append(entries, data(word))
 	}
-	return fed(it.client.Feed(entries))
+	return fed(p.client.Feed(entries))
 }
 
 func keyWord(key []byte) string {
@@ -153,14 +153,14 @@ func foundWords(found client.Found) string {
 	return fmt.Sprintf(" %d %s %s %s %d", found.Epoch, keyWord(found.Key), seenWord(found.Seen), ageWord(found.Age), found.FirstSeen)
 }
 
-func (it *program) lookup(words []string) (string, error) {
+func (p *program) lookup(words []string) (string, error) {
 	name, reply := string(data(words[0])), data(words[1])
 	var found *client.Found
 	var err error
 	if words[2] == "-" {
-		found, err = it.client.Lookup(name, reply)
+		found, err = p.client.Lookup(name, reply)
 	} else {
-		found, err = it.client.LookupAt(name, reply, number(words[2]))
+		found, err = p.client.LookupAt(name, reply, number(words[2]))
 	}
 	if err != nil {
 		return "", err
@@ -168,8 +168,8 @@ func (it *program) lookup(words []string) (string, error) {
 	return "found" + foundWords(*found), nil
 }
 
-func (it *program) history(words []string) (string, error) {
-	all, err := it.client.History(string(data(words[0])), data(words[1]))
+func (p *program) history(words []string) (string, error) {
+	all, err := p.client.History(string(data(words[0])), data(words[1]))
 	text := "found"
 	for _, found := range all {
 		text += foundWords(found)
@@ -177,12 +177,12 @@ func (it *program) history(words []string) (string, error) {
 	return text, err
 }
 
-func (it *program) watch(words []string) (string, error) {
+func (p *program) watch(words []string) (string, error) {
 	name, key := string(data(words[0])), data(words[1])
 	if words[2] == "-" {
-		return "watching", it.client.Watch(name, key)
+		return "watching", p.client.Watch(name, key)
 	}
-	return "watching", it.client.WatchSince(name, key, number(words[2]))
+	return "watching", p.client.WatchSince(name, key, number(words[2]))
 }
 
 // epochWords is a word and the epochs after it.
@@ -193,8 +193,8 @@ func epochWords(word string, epochs []uint64) string {
 	return word
 }
 
-func (it *program) head() string {
-	if head := it.client.Head(); head != nil {
+func (p *program) head() string {
+	if head := p.client.Head(); head != nil {
 		return fmt.Sprintf("head %d %x", head.Epoch, head.Link)
 	}
 	return "head -"
@@ -233,93 +233,93 @@ func refused(err error) string {
 }
 
 // setTrust reads the trust document of the next client.
-func (it *program) setTrust(words []string) {
-	it.trust = &client.Trust{Auditors: uint32(number(words[1])), Faulty: uint32(number(words[2]))}
-	copy(it.trust.Digest[:], data(words[0]))
+func (p *program) setTrust(words []string) {
+	p.trust = &client.Trust{Auditors: uint32(number(words[1])), Faulty: uint32(number(words[2]))}
+	copy(p.trust.Digest[:], data(words[0]))
 }
 
-func (it *program) mark(words []string) (string, error) {
+func (p *program) mark(words []string) (string, error) {
 	head, err := headOf(words[1], words[2])
 	if err != nil {
 		return "", err
 	}
-	found, err := it.client.Mark(int(number(words[0])), head)
+	found, err := p.client.Mark(int(number(words[0])), head)
 	return found.String(), err
 }
 
-func (it *program) confirmed() string {
-	if epoch, isThere := it.client.Confirmed(); isThere {
+func (p *program) confirmed() string {
+	if epoch, isThere := p.client.Confirmed(); isThere {
 		return fmt.Sprintf("confirmed %d", epoch)
 	}
 	return "confirmed -"
 }
 
-func (it *program) alarms() string {
+func (p *program) alarms() string {
 	text := "alarms"
-	for _, alarm := range it.client.Alarms() {
+	for _, alarm := range p.client.Alarms() {
 		text += fmt.Sprintf(" %d:%v", alarm.Epoch, alarm.Seen)
 	}
 	return text
 }
 
-func (it *program) report() (string, error) {
-	report, err := it.client.Report()
+func (p *program) report() (string, error) {
+	report, err := p.client.Report()
 	return fmt.Sprintf("report %v %d %d", report.Verdict, report.First, report.Last), err
 }
 
 // answer makes the call of a request.
-func (it *program) answer(word string, words []string) (string, error) {
+func (p *program) answer(word string, words []string) (string, error) {
 	switch word {
 	case "begin":
-		return it.begin(words)
+		return p.begin(words)
 	case "vouched":
-		return it.vouched(words)
+		return p.vouched(words)
 	case "now":
-		it.now = time.Unix(int64(number(words[0])), 0)
+		p.now = time.Unix(int64(number(words[0])), 0)
 		return "set", nil
 	case "feed":
-		return it.feed(words)
+		return p.feed(words)
 	case "catchup":
-		return fed(it.client.FeedCatchUp(data(words[0])))
+		return fed(p.client.FeedCatchUp(data(words[0])))
 	case "lookup":
-		return it.lookup(words)
+		return p.lookup(words)
 	case "history":
-		return it.history(words)
+		return p.history(words)
 	case "watch":
-		return it.watch(words)
+		return p.watch(words)
 	case "expect":
-		return "expected", it.client.Expect(data(words[0]), number(words[1]))
+		return "expected", p.client.Expect(data(words[0]), number(words[1]))
 	case "missing":
-		return epochWords(word, it.client.Missing()), nil
+		return epochWords(word, p.client.Missing()), nil
 	case "lost":
-		return epochWords(word, it.client.Lost()), nil
+		return epochWords(word, p.client.Lost()), nil
 	case "head":
-		return it.head(), nil
+		return p.head(), nil
 	case "compare":
-		return compare(words, it.client.Compare)
+		return compare(words, p.client.Compare)
 	case "cover":
-		return compare(words, it.client.Cover)
+		return compare(words, p.client.Cover)
 	case "evidence":
-		evidence, err := it.client.Evidence(data(words[0]))
+		evidence, err := p.client.Evidence(data(words[0]))
 		return "evidence " + evidenceWords(evidence), err
 	case "state":
-		return fmt.Sprintf("state %x", it.client.State()), nil
+		return fmt.Sprintf("state %x", p.client.State()), nil
 	case "trust":
-		it.setTrust(words)
+		p.setTrust(words)
 		return "set", nil
 	case "mark":
-		return it.mark(words)
+		return p.mark(words)
 	case "confirmed":
-		return it.confirmed(), nil
+		return p.confirmed(), nil
 	case "drop":
-		return epochWords("dropped", it.client.Drop()), nil
+		return epochWords("dropped", p.client.Drop()), nil
 	case "note":
-		it.client.Note(number(words[0]))
-		return it.alarms(), nil
+		p.client.Note(number(words[0]))
+		return p.alarms(), nil
 	case "alarms":
-		return it.alarms(), nil
+		return p.alarms(), nil
 	case "report":
-		return it.report()
+		return p.report()
 	}
 	return "", errMisuse
 }
