@@ -2,7 +2,6 @@
 
 from __future__ import annotations
 
-import shutil
 import subprocess
 from pathlib import Path
 from typing import Sequence, Union
@@ -15,39 +14,35 @@ class NotBuilt(Exception):
     """What the toolchain said of a crate that it doesn't build."""
 
 
-def kit() -> Path:
-    """The folder of the toolchain."""
-    return Path(shutil.which("rt") or "").resolve().parents[1]
-
-
 def crates(*names: str) -> dict[str, list[str]]:
     """Each crate of the repository with what it depends on, or those of a crate and of what is below it."""
     lines = subprocess.run([TOP / "scripts/crates", *names], stdout=subprocess.PIPE, text=True, check=True).stdout.splitlines()
     return {name: below for name, *below in map(str.split, lines)}
 
 
-def run(words: Sequence[Word], home: Path) -> None:
+def run(words: Sequence[Word], home: Path) -> str:
     ran = subprocess.run([str(it) for it in words], cwd=home, capture_output=True, text=True, errors="replace")
     if ran.returncode:
         raise NotBuilt(f"{ran.stdout[-2000:]}{ran.stderr[-2000:]}")
+    return ran.stdout
 
 
 def build(crate: str, made: Path, *options: str) -> None:
     """Proves a program or a static library, and compiles it by LLVM: the object file of a program, or the archive."""
-    home, needs, tools = TOP / "crates" / crate, crates(crate), kit()
+    home, needs = TOP / "crates" / crate, crates(crate)
+    names = ["rattle", "llvm", "logic", "built-logic", "libraries"]
+    rattle, llvm, logic, built_logic, libraries = run([TOP / "scripts/kit", "paths", *names], TOP).splitlines()
     root = "src/main.rt" if (home / "src/main.rt").is_file() else "src/lib.rt"
     rlibs = {it: TOP / "crates" / it / "out/rlib" for it in needs if it != crate}
-    words: list[Word] = ["build", "--crate-name", crate, root, "--backend", "llvm", "--toolchain", tools / "toolchain", "-o", made]
-    words += ["--antt-project", tools / "rattle/logic/antt-project.json", "--logic-built", tools / "logic_built", *options]
+    words: list[Word] = ["build", "--crate-name", crate, root, "--backend", "llvm", "--toolchain", llvm, "-o", made]
+    words += ["--antt-project", logic, "--logic-built", built_logic, *options]
     for library in ["std", *needs[crate]]:
-        words += ["--extern", f"{library}={rlibs.get(library, tools / 'rlibs')}/{library}.rlib"]
-    for folder in [tools / "rlibs", *rlibs.values()]:
+        words += ["--extern", f"{library}={rlibs.get(library, libraries)}/{library}.rlib"]
+    for folder in [libraries, *rlibs.values()]:
         words += ["-L", f"dependency={folder}"]
-    run([tools / "bin/rattle", *words], home)
+    run([rattle, *words], home)
 
 
 def link(object_file: Path, program: Path) -> None:
     """Links a program."""
-    tools = kit()
-    words: list[Word] = ["--target", "x86_64-unknown-linux-gnu", "--toolchain", tools / "toolchain", "-o", program, object_file]
-    run([tools / "bin/rattle-link", *words, tools / "c/libos_c.a", tools / "c/liblibc_c.a"], TOP)
+    run([TOP / "scripts/kit", "link", "x86_64-unknown-linux-gnu", program, object_file], TOP)

@@ -584,7 +584,7 @@ REST = [
         [
             "keydir",
             "provider",
-            *(f"scripts/{it}" for it in ("launch", "built", "need-rt", "processor", "compile-unproved", "unproved-kit")),
+            *(f"scripts/{it}" for it in ("launch", "built", "need-rt", "processor", "compile-unproved", "kit")),
         ],
         ["scripts/tests/test_launcher.py"],
     ),
@@ -599,7 +599,7 @@ REST = [
         "the library without a proof",
         [
             "scripts/unproved-library",
-            "scripts/unproved-kit",
+            "scripts/kit",
             "scripts/unproved-tests",
             "scripts/compile-unproved",
             "crates/coniks_c/src/*",

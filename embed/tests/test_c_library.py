@@ -27,7 +27,7 @@ CC = tools.CC
 MAY_ASK = {"memcpy", "memmove", "memset"}
 STACK = 8192
 # The scripts by which `embed/build` builds the library.
-BUILDING = ["built", "crates", "need-rt", "processor", "unproved-kit", "unproved-library"]
+BUILDING = ["built", "crates", "need-rt", "processor", "kit", "unproved-library"]
 SEED = 20261125
 # The empty tree's root is the hash of an empty node: 45, the nonce, the prefix in 32 bytes and its length in 2.
 SAMPLE = {

@@ -20,7 +20,8 @@ import pytest
 
 TOP = Path(__file__).resolve().parents[2]
 PROGRAMS = ["keydir", "provider"]
-FILES = [*PROGRAMS, "scripts/install", "scripts/launch", "scripts/crates", "scripts/built", "scripts/need-rt", "scripts/processor"]
+FILES = [*PROGRAMS, "scripts/install", "scripts/launch", "scripts/crates", "scripts/built", "scripts/kit", "scripts/need-rt"]
+FILES += ["scripts/processor"]
 FOLDERS = ["docs/man", "docs/completion", "embed/python/bin", "embed/python/src/coniks"]
 # The commands of the Python package, and the manual pages.
 COMMANDS = ["coniks-audit", "coniks-client"]
