@@ -65,6 +65,7 @@ extern "C" {
 #endif
 
 enum {
+    /* formats.toml: lengths */
     CONIKS_BODY_BYTES = 145,     /* of an entry's body, which is signed */
     CONIKS_SIGNATURE_BYTES = 64, /* of its signature, for example Ed25519 (RFC 8032) */
     CONIKS_ENTRY_BYTES = 209,    /* both */
@@ -72,58 +73,63 @@ enum {
     CONIKS_MAX_KEY = 16384,      /* bytes of a key; at least 1 */
     CONIKS_MAX_PROOF = 24872,    /* bytes of the longest proof that can be accepted */
     CONIKS_TEXT_BYTES = 128      /* bytes of the longest text of coniks_text, with its zero byte */
+    /* formats.toml: end */
 };
 
 enum coniks_status {
-    CONIKS_GOOD = 0,
-    CONIKS_ABSENT = 1, /* the proof is accepted; the name is bound to no key */
+    /* formats.toml: outcomes */
+    CONIKS_GOOD = 0,         /* success: a key is shown, an entry follows, the expected key is seen, or bytes were written */
+    CONIKS_ABSENT = 1,       /* the proof is accepted; the name is bound to no key */
+    CONIKS_CHANGED = 9,      /* of coniks_monitor_step: the proof is accepted, and does not show what is expected */
+    CONIKS_NO_EVIDENCE = 50, /* of coniks_convicts: the entries are no evidence of equivocation */
+    /* formats.toml: end */
 
+    /* formats.toml: statuses */
     /* of coniks_check and coniks_monitor_step: the proof is not accepted */
-    CONIKS_E_TOO_DEEP = 2,       /* more than 256 siblings */
-    CONIKS_E_NAME_LENGTH = 3,    /* the name asked for is empty or longer than 255 bytes */
-    CONIKS_E_KEY_LENGTH = 4,     /* the proof's key is empty or longer than 16,384 bytes */
-    CONIKS_E_WRONG_NAME = 5,     /* the proof's leaf has another name */
-    CONIKS_E_OTHER_IS_SAME = 6,  /* the proof's other index is the one asked for */
-    CONIKS_E_OTHER_OFF_PATH = 7, /* the proof's other index is not on the path to the one asked for */
-    CONIKS_E_ROOT_MISMATCH = 8,  /* the proof's path does not lead to the root */
-
-    /* of coniks_monitor_step: the proof is accepted */
-    CONIKS_CHANGED = 9, /* it shows another key than the expected one, or a key if none is expected */
+    CONIKS_E_TOO_DEEP = 2,       /* the proof has more than 256 siblings */
+    CONIKS_E_NAME_LENGTH = 3,    /* the name is empty or longer than 255 bytes */
+    CONIKS_E_KEY_LENGTH = 4,     /* the proof's key is empty or longer than 16384 bytes */
+    CONIKS_E_WRONG_NAME = 5,     /* the proof's leaf contains another name */
+    CONIKS_E_OTHER_IS_SAME = 6,  /* the proof's other index is the requested index */
+    CONIKS_E_OTHER_OFF_PATH = 7, /* the proof's other index isn't on the path to the requested index */
+    CONIKS_E_ROOT_MISMATCH = 8,  /* the root computed from the proof isn't the expected root */
 
     /* of coniks_check and coniks_monitor_step: the bytes are not a proof */
-    CONIKS_E_NO_BYTES = 17,
+    CONIKS_E_NO_BYTES = 17,        /* there are no bytes */
     CONIKS_E_UNKNOWN_KIND = 18,    /* the first byte is not 0, 1 or 2 */
     CONIKS_E_CUT_IN_COUNT = 19,    /* the bytes end within the number of siblings */
-    CONIKS_E_CUT_IN_SIBLINGS = 20, /* within the siblings */
-    CONIKS_E_CUT_IN_OTHER = 21,    /* within the other index or its commitment */
-    CONIKS_E_CUT_IN_OPENING = 22,  /* within the opening */
-    CONIKS_E_CUT_IN_NAME = 23,     /* within the name or its length */
-    CONIKS_E_CUT_IN_KEY = 24,      /* within the key or its length */
+    CONIKS_E_CUT_IN_SIBLINGS = 20, /* the bytes end within the siblings */
+    CONIKS_E_CUT_IN_OTHER = 21,    /* the bytes end within the other index or its commitment */
+    CONIKS_E_CUT_IN_OPENING = 22,  /* the bytes end within the opening */
+    CONIKS_E_CUT_IN_NAME = 23,     /* the bytes end within the name or its length */
+    CONIKS_E_CUT_IN_KEY = 24,      /* the bytes end within the key or its length */
     CONIKS_E_BYTES_FOLLOW = 25,    /* bytes follow the proof */
 
     /* of coniks_auditor_feed and coniks_monitor_step: the entry does not follow the last accepted one */
     CONIKS_E_VERSION_UNKNOWN = 33, /* the version is neither 1 nor 2 */
-    CONIKS_E_VERSION_BACK = 34,    /* it is lower than that of the entry before */
+    CONIKS_E_VERSION_BACK = 34,    /* the version is lower than that of the entry before */
     CONIKS_E_FIRST_EPOCH = 35,     /* the first epoch is 0 */
-    CONIKS_E_NOT_LATER = 36,       /* the epoch is not later than the one before */
-    CONIKS_E_PREVIOUS_EPOCH = 37,  /* the previous epoch is not that of the entry before */
-    CONIKS_E_PREVIOUS_LINK = 38,   /* the previous link is not that of the entry before */
-    CONIKS_E_NONCE_CHANGED = 39,   /* the nonce of a version 1 entry is not the one before */
-    CONIKS_E_SIGNATURE = 40,       /* the caller's verification result is not 1 */
+    CONIKS_E_NOT_LATER = 36,       /* the epoch isn't later than that of the entry before */
+    CONIKS_E_PREVIOUS_EPOCH = 37,  /* the previous epoch isn't that of the entry before */
+    CONIKS_E_PREVIOUS_LINK = 38,   /* the previous link isn't that of the entry before */
+    CONIKS_E_NONCE_CHANGED = 39,   /* the version is 1 and the nonce isn't that of the entry before */
+    CONIKS_E_SIGNATURE = 40,       /* the signature isn't valid for the body, as the caller has verified it */
 
-    /* of calls that take an entry, and of coniks_auditor_head */
-    CONIKS_E_ENTRY_LENGTH = 48, /* the entry does not have 209 bytes */
-    CONIKS_E_NO_ENTRY = 49,     /* no entry was accepted yet */
+    /* of calls that take an entry */
+    CONIKS_E_ENTRY_LENGTH = 48, /* the entry isn't 209 bytes long */
 
-    /* of coniks_convicts */
-    CONIKS_NO_EVIDENCE = 50 /* the entries are no evidence of equivocation */
+    /* of coniks_auditor_head */
+    CONIKS_E_NO_ENTRY = 49 /* no entry was accepted yet */
+    /* formats.toml: end */
 };
 
 /* Why two entries, signed with one key, are evidence that its owner equivocated. */
 enum coniks_evidence {
+    /* formats.toml: evidence */
     CONIKS_OVERLAP = 1,      /* different bodies whose intervals (previous epoch, epoch] overlap */
     CONIKS_OTHER_POLICY = 2, /* different policy digests */
     CONIKS_MALFORMED = 3     /* one is in no chain: its version, its epochs or its first link is wrong */
+    /* formats.toml: end */
 };
 
 /* A nonce, a root, an index or a link. */

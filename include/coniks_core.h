@@ -54,49 +54,48 @@ extern "C" {
 
 /* Why the core refuses something, beside the statuses of coniks.h. docs/FORMATS.md has those below 128. */
 enum coniks_core_status {
-    /* a reply */
-    CONIKS_CORE_E_NO_REPLY = 64,
-    CONIKS_CORE_E_REPLY_VERSION = 65, /* the first byte is not 1 */
-    CONIKS_CORE_E_CUT_IN_ENTRY = 66,  /* the bytes end within the entry */
-    CONIKS_CORE_E_CUT_IN_VRF = 67,    /* within the VRF proof or its length; of a history too */
+    /* A history with a step of more than 256 siblings is CONIKS_E_TOO_DEEP. */
 
-    /* a catch-up */
-    CONIKS_CORE_E_CATCH_UP_LENGTH = 68, /* the number of bytes is not a multiple of 209 */
-
-    /* a history; CONIKS_E_TOO_DEEP if a step has more than 256 siblings */
-    CONIKS_CORE_E_NO_HISTORY = 69,
-    CONIKS_CORE_E_HISTORY_VERSION = 70,  /* the first byte is not 1 */
-    CONIKS_CORE_E_CUT_IN_STEP = 71,      /* the bytes end within a step */
+    /* formats.toml: statuses */
+    /* the bytes are no reply, no catch-up or no history */
+    CONIKS_CORE_E_NO_REPLY = 64,         /* the reply has no byte */
+    CONIKS_CORE_E_REPLY_VERSION = 65,    /* the reply's first byte is not 1 */
+    CONIKS_CORE_E_CUT_IN_ENTRY = 66,     /* the reply ends before its entry does */
+    CONIKS_CORE_E_CUT_IN_VRF = 67,       /* the reply or the history ends within the VRF proof or its length */
+    CONIKS_CORE_E_CATCH_UP_LENGTH = 68,  /* the number of a catch-up's bytes is not a multiple of 209 */
+    CONIKS_CORE_E_NO_HISTORY = 69,       /* the history has no byte */
+    CONIKS_CORE_E_HISTORY_VERSION = 70,  /* the history's first byte is not 1 */
+    CONIKS_CORE_E_CUT_IN_STEP = 71,      /* the history ends within a step */
     CONIKS_CORE_E_EPOCH_ORDER = 72,      /* a step's epoch is not greater than the one before */
-    CONIKS_CORE_E_UNKNOWN_END = 73,      /* the kind of an end is greater than 3, or 3 in the first step */
-    CONIKS_CORE_E_SIBLING_MAP = 74,      /* a bit is set after those of the siblings, or a sibling is missing */
-    CONIKS_CORE_E_SIBLING_REPEATED = 75, /* a sibling is sent that the step before has in its place */
-    CONIKS_CORE_E_END_REPEATED = 76,     /* an end is sent that is that of the step before */
+    CONIKS_CORE_E_UNKNOWN_END = 73,      /* the kind of a step's end is greater than 3, or 3 in the first step */
+    CONIKS_CORE_E_SIBLING_MAP = 74,      /* a map has a spare bit, or a sibling is neither sent nor in the step before */
+    CONIKS_CORE_E_SIBLING_REPEATED = 75, /* a sibling is sent that equals the one in its place of the step before */
+    CONIKS_CORE_E_END_REPEATED = 76,     /* an end is sent that equals the one of the step before */
 
-    /* an entry, and what a reply is compared with */
-    CONIKS_CORE_E_OTHER_POLICY = 80,  /* the policy digest is not the client's */
-    CONIKS_CORE_E_MALFORMED = 81,     /* no chain contains the entry */
-    CONIKS_CORE_E_EQUIVOCATION = 82,  /* the entry and a kept one are evidence */
-    CONIKS_CORE_E_UNKNOWN_EPOCH = 83, /* the chain has no entry at the asked epoch */
-    CONIKS_CORE_E_OTHER_EPOCH = 84,   /* the reply's body is not that of the entry at the asked epoch */
+    /* the reply or the entry is not one that the client can accept */
+    CONIKS_CORE_E_OTHER_POLICY = 80,  /* the signed entry has another policy digest than the directory's */
+    CONIKS_CORE_E_MALFORMED = 81,     /* no chain has the signed entry */
+    CONIKS_CORE_E_EQUIVOCATION = 82,  /* the signed entry and a kept one are evidence */
+    CONIKS_CORE_E_UNKNOWN_EPOCH = 83, /* the chain has no entry at this epoch */
+    CONIKS_CORE_E_OTHER_EPOCH = 84,   /* the reply's body is not that of the client's entry at the requested epoch */
     CONIKS_CORE_E_STALE = 85,         /* the latest epoch began too long ago */
-    CONIKS_CORE_E_FUTURE = 86,        /* it begins too far in the future */
-    CONIKS_CORE_E_VRF_PROOF = 87,     /* the VRF proof is not one of the name */
+    CONIKS_CORE_E_FUTURE = 86,        /* the latest epoch begins too far in the future */
+    CONIKS_CORE_E_VRF_PROOF = 87,     /* the VRF proof is not one of this name */
 
-    /* a state */
-    CONIKS_CORE_E_STATE_LENGTH = 96,  /* there are fewer than 110 bytes */
-    CONIKS_CORE_E_STATE_VERSION = 97, /* the first byte is not 3 */
-    CONIKS_CORE_E_STATE_DAMAGED = 98, /* the digest is not that of the bytes before */
-    CONIKS_CORE_E_STATE_POLICY = 99,  /* the policy digest is not the client's */
-    CONIKS_CORE_E_STATE_FORM = 100,   /* a part has a form that no state has */
-    CONIKS_CORE_E_STATE_CHAIN = 101,  /* an entry is not verified, or does not follow the one before */
+    /* the state is not one of this directory */
+    CONIKS_CORE_E_STATE_LENGTH = 96,  /* the state has fewer than 110 bytes */
+    CONIKS_CORE_E_STATE_VERSION = 97, /* the state's first byte is not 3 */
+    CONIKS_CORE_E_STATE_DAMAGED = 98, /* the state's digest is not that of the bytes before it */
+    CONIKS_CORE_E_STATE_POLICY = 99,  /* the state's policy digest is not that of the client */
+    CONIKS_CORE_E_STATE_FORM = 100,   /* a part of the state has a form that no state has, or bytes follow */
+    CONIKS_CORE_E_STATE_CHAIN = 101,  /* the entries in the state are no chain of this directory */
 
-    /* the first entry of a client that starts late */
+    /* a client can't begin with this entry */
     CONIKS_CORE_E_NOT_VOUCHED = 104,     /* fewer auditors than a quorum have the entry's head */
     CONIKS_CORE_E_AUDITORS_DIFFER = 105, /* an auditor has another link for the entry's epoch */
 
     /* a call that the caller must not make */
-    CONIKS_CORE_E_NAME = 130,          /* a name that is watched has no byte, or more than 255 */
+    CONIKS_CORE_E_NAME = 130,          /* a watched name has no byte, or more than 255 */
     CONIKS_CORE_E_EXPECTED_KEY = 131,  /* an expected key has 2^32 bytes or more */
     CONIKS_CORE_E_OTHER_WATCH = 132,   /* another name, another key, or from another epoch on is watched */
     CONIKS_CORE_E_NOT_WATCHING = 133,  /* no name is watched */
@@ -110,6 +109,7 @@ enum coniks_core_status {
     CONIKS_CORE_E_NO_QUORUM = 141,     /* the quorum is 0 */
     CONIKS_CORE_E_MANY_HEADS = 142,    /* there are more than 64 heads */
     CONIKS_CORE_E_NO_STATE = 143       /* a state has no room for the client: see coniks_core_state_size */
+    /* formats.toml: end */
 };
 
 /* A kept epoch: 218 bytes, as a client's state has them. Seen: 0 not watched, 1 the same, 3 another key, 4 no key, 5 missing. */

@@ -35,32 +35,34 @@ extern "C" {
 
 /* Why a step is refused, beside CONIKS_E_ENTRY_LENGTH. */
 enum coniks_guard_status {
+    /* a call that the caller must not make */
+    CONIKS_GUARD_E_NO_ROOM = 137, /* *count is greater than `room`, or there is no room for a body more */
+
+    /* formats.toml: statuses */
     /* the key must not sign the body */
     CONIKS_GUARD_E_MALFORMED = 112,        /* no chain has such a body */
-    CONIKS_GUARD_E_NOTHING_RECORDED = 113, /* it follows an epoch, and nothing is recorded as signed */
-    CONIKS_GUARD_E_BEGINS_UNASKED = 114,   /* it begins a directory, and that is not allowed */
-    CONIKS_GUARD_E_BEGINS_AGAIN = 115,     /* it begins a directory, and the key has signed */
-    CONIKS_GUARD_E_OTHER_POLICY = 116,     /* it has another policy digest than the last entry signed */
-    CONIKS_GUARD_E_LOG_BEHIND = 117,       /* it follows an earlier epoch than the last one signed */
-    CONIKS_GUARD_E_RECORD_BEHIND = 118,    /* it follows a later one */
-    CONIKS_GUARD_E_OTHER_LINK = 119,       /* it follows another entry of the last epoch signed */
-    CONIKS_GUARD_E_VERSION_BACK = 120,     /* its version is lower than that of the last entry signed */
-    CONIKS_GUARD_E_NONCE_CHANGED = 121,    /* its version is 1, and its nonce is not that of the last entry signed */
+    CONIKS_GUARD_E_NOTHING_RECORDED = 113, /* it follows an epoch, and there is no signed entry */
+    CONIKS_GUARD_E_BEGINS_UNASKED = 114,   /* it is a first body, nothing is signed, and the caller allows none */
+    CONIKS_GUARD_E_BEGINS_AGAIN = 115,     /* it is a first body, and there is a signed entry */
+    CONIKS_GUARD_E_OTHER_POLICY = 116,     /* its policy digest is not that of the signed entry */
+    CONIKS_GUARD_E_LOG_BEHIND = 117,       /* the epoch before it is earlier than that of the signed entry */
+    CONIKS_GUARD_E_RECORD_BEHIND = 118,    /* the epoch before it is later than that of the signed entry */
+    CONIKS_GUARD_E_OTHER_LINK = 119,       /* its previous link is not that of the signed entry */
+    CONIKS_GUARD_E_VERSION_BACK = 120,     /* its version is lower than that of the signed entry */
+    CONIKS_GUARD_E_NONCE_CHANGED = 121,    /* its version is 1, and its nonce is not that of the signed entry */
     CONIKS_GUARD_E_OTHER_OPEN = 122,       /* another body is open; also of a signature that is to be replaced */
 
     /* a signature is not stored */
     CONIKS_GUARD_E_NOT_ASKED = 123, /* the body is not open: another step came between */
 
     /* a body is not abandoned */
-    CONIKS_GUARD_E_MAY_BE_SIGNED = 124, /* it follows an earlier epoch than the last one signed */
-    CONIKS_GUARD_E_RECORD_OLD = 125,    /* it follows a later one */
+    CONIKS_GUARD_E_MAY_BE_SIGNED = 124, /* the epoch before it is earlier than that of the signed entry */
+    CONIKS_GUARD_E_RECORD_OLD = 125,    /* the epoch before it is later than that of the signed entry */
 
     /* an entry is not adopted */
     CONIKS_GUARD_E_OTHER_BODIES = 126, /* the record has anything but this entry */
-    CONIKS_GUARD_E_NO_ENTRY = 127,     /* no chain has such an entry */
-
-    /* a call that the caller must not make */
-    CONIKS_GUARD_E_NO_ROOM = 137 /* *count is greater than `room`, or there is no room for a body more */
+    CONIKS_GUARD_E_NO_ENTRY = 127      /* no chain has such an entry */
+    /* formats.toml: end */
 };
 
 /* What a record says of a body. */

@@ -98,7 +98,7 @@ OF_CLIENTS = [
 ]
 OF_JAVA = ["embed/java/**", "embed/c/client*", "embed/tests/java_clients.py", "embed/tests/native_clients.py", "include/*"]
 # What the packages for other languages are compared with.
-OF_SIDES = ["include/coniks.h", "include/coniks_core.h", "embed/texts.json", "embed/sample", "embed/proof_bytes.py"]
+OF_SIDES = ["include/coniks.h", "include/coniks_core.h", "formats.toml", "embed/sample", "embed/proof_bytes.py"]
 OF_SIDES += [f"embed/tests/{it}.py" for it in ("conftest", "messages", "model", "running", "samples", "sides")]
 
 OF_CLIENT_IN_PYTHON = [
@@ -434,7 +434,7 @@ LANGUAGES = [
             "web/telling.mjs",
             "web/build",
             "cases/client/*",
-            "embed/texts.json",
+            "formats.toml",
             "web/tests/proofs.json",
             FORMATS,
         ],
@@ -595,6 +595,15 @@ REST = [
         library=True,
     ),
     Part("scripts/crates", ["scripts/crates", "crates.txt"], ["scripts/tests/test_crates.py"]),
+    Part(
+        "formats.toml",
+        [
+            *("formats.toml", "scripts/tables", "crates/coniks_c/*/*", "crates/coniks_json/*/*", "include/*"),
+            *("embed/python/src/coniks/*", "embed/go/*", "embed/go/client/*", "embed/rust/src/**", "embed/java/src/main/**"),
+            *("embed/c/client*", "web/src/formats.js", "web/coniks.d.ts"),
+        ],
+        ["scripts/tests/test_tables.py"],
+    ),
     Part(
         "the library without a proof",
         [

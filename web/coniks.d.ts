@@ -52,13 +52,16 @@ export interface Evidence {
 
 /** Why a client refuses something, by the names of docs/FORMATS.md, "Replies to clients". */
 export type Cause =
-  | "TooDeep" | "NameLength" | "KeyLength" | "WrongName" | "OtherIsSame" | "OtherOffPath" | "RootMismatch"
-  | "NoBytes" | "UnknownKind" | "CutInCount" | "CutInSiblings" | "CutInOther" | "CutInOpening" | "CutInName" | "CutInKey" | "BytesFollow"
-  | "Version" | "VersionBack" | "FirstEpoch" | "NotLater" | "PreviousEpoch" | "PreviousLink" | "NonceChanged" | "Signature" | "EntryLength"
-  | "NoReply" | "ReplyVersion" | "CutInEntry" | "CutInVrf" | "CatchUpLength" | "NoHistory" | "HistoryVersion" | "CutInStep" | "EpochOrder"
-  | "UnknownEnd" | "SiblingMap" | "SiblingRepeated" | "EndRepeated" | "OtherPolicy" | "Malformed" | "Equivocation" | "UnknownEpoch"
-  | "OtherEpoch" | "Stale" | "Future" | "VrfProof" | "StateLength" | "StateVersion" | "StateDamaged" | "StatePolicy" | "StateForm"
-  | "StateChain" | "NotVouched" | "AuditorsDiffer" | "SigningKey" | "VrfKey" | "PolicyKeys";
+  // formats.toml: causes
+  | "TooDeep" | "NameLength" | "KeyLength" | "WrongName" | "OtherIsSame" | "OtherOffPath" | "RootMismatch" | "NoBytes" |
+  "UnknownKind" | "CutInCount" | "CutInSiblings" | "CutInOther" | "CutInOpening" | "CutInName" | "CutInKey" | "BytesFollow" |
+  "Version" | "VersionBack" | "FirstEpoch" | "NotLater" | "PreviousEpoch" | "PreviousLink" | "NonceChanged" | "Signature" |
+  "EntryLength" | "NoReply" | "ReplyVersion" | "CutInEntry" | "CutInVrf" | "CatchUpLength" | "NoHistory" | "HistoryVersion" |
+  "CutInStep" | "EpochOrder" | "UnknownEnd" | "SiblingMap" | "SiblingRepeated" | "EndRepeated" | "OtherPolicy" | "Malformed" |
+  "Equivocation" | "UnknownEpoch" | "OtherEpoch" | "Stale" | "Future" | "VrfProof" | "StateLength" | "StateVersion" |
+  "StateDamaged" | "StatePolicy" | "StateForm" | "StateChain" | "NotVouched" | "AuditorsDiffer" | "SigningKey" | "VrfKey" |
+  "PolicyKeys";
+  // formats.toml: end
 
 /** A client refuses what it was given, and keeps nothing of it. */
 export class Refusal extends Error {

@@ -47,6 +47,7 @@ extern "C" {
 
 /* Why a client refuses something. The first block has the numbers of docs/FORMATS.md; the second is of this client alone. */
 enum coniks_client_status {
+    /* formats.toml: statuses */
     CONIKS_CLIENT_E_NO_REPLY = 64,
     CONIKS_CLIENT_E_REPLY_VERSION = 65,
     CONIKS_CLIENT_E_CUT_IN_ENTRY = 66,
@@ -79,6 +80,7 @@ enum coniks_client_status {
     CONIKS_CLIENT_E_SIGNING_KEY = 112,
     CONIKS_CLIENT_E_VRF_KEY = 113,
     CONIKS_CLIENT_E_POLICY_KEYS = 114,
+    /* formats.toml: end */
 
     /* a call that the caller must not make, or that the machine can't do */
     CONIKS_CLIENT_E_POLICY_FORM = 128,   /* the policy is no document, or there is neither document nor digest */

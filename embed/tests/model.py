@@ -2,7 +2,6 @@
 
 from __future__ import annotations
 
-import json
 import struct
 from random import Random
 from typing import Any, Callable, Optional, Sequence, cast
@@ -13,7 +12,6 @@ import evidence
 import samples
 from members import Fault
 from proofs import judge
-from running import EMBED
 
 CHECK = ["TooDeep", "NameLength", "KeyLength", "WrongName", "OtherIsSame", "OtherOffPath", "RootMismatch"]
 AUDIT = ["Version", "VersionBack", "FirstEpoch", "NotLater", "PreviousEpoch", "PreviousLink", "NonceChanged", "Verdict"]
@@ -29,7 +27,7 @@ Answer = tuple[Any, ...]
 
 def texts() -> dict[int, bytes]:
     numbers = samples.statuses()
-    return {numbers[name]: it.encode() for name, it in json.loads((EMBED / "texts.json").read_text("utf-8")).items()}
+    return {numbers[name]: it.encode() for name, it in samples.texts().items()}
 
 
 TEXTS = texts()

@@ -8,6 +8,7 @@ import json
 import re
 import subprocess
 import tempfile
+import tomllib
 from pathlib import Path
 from random import Random
 from typing import Any, Callable, Optional, Sequence, Union
@@ -32,6 +33,14 @@ def statuses() -> dict[str, int]:
     body = re.search(r"enum coniks_status \{(.*?)\};", HEADER, re.S)
     assert body
     return {name: int(number) for name, number in re.findall(r"CONIKS_(?:E_)?([A-Z_]+) = (\d+)", body[1])}
+
+
+def texts() -> dict[str, str]:
+    """The texts of the library's errors, by their names in `enum coniks_status` without `E_`."""
+    groups = tomllib.loads((TOP / "formats.toml").read_text("utf-8"))["statuses"].values()
+    rows = {name: row for it in groups for name, row in it.items() if isinstance(row, dict)}
+    named = {row.get("symbol", name): row["text"] for name, row in rows.items()}
+    return {re.sub(r"(?<!^)(?=[A-Z])", "_", name).upper(): text for name, text in named.items()}
 
 
 def lines_of(program: str, script: Union[str, Path]) -> list[Line]:

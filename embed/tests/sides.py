@@ -1,7 +1,7 @@
 """What the sides of the library for C in Python, Go, Rust and JavaScript are asked.
 
 Each side has a program that replies to requests, one on each line. The expected reply is what `keydir check`, `keydir audit` and
-`keydir monitor` print, what hashlib computes, and what the header and texts.json say.
+`keydir monitor` print, what hashlib computes, and what the header and formats.toml say.
 """
 
 from __future__ import annotations
@@ -217,7 +217,7 @@ def of_entries(chance: random.Random) -> Iterator[Request]:
         cut = entry[: chance.randrange(209)]
         yield f"body {word(cut)}", "refused 48"
         yield f"link {word(cut)}", "refused 48"
-    texts = json.loads((EMBED / "texts.json").read_text("utf-8"))
+    texts = samples.texts()
     numbers = {it: name for name, it in samples.statuses().items()}
     for number in range(70):
         yield f"text {number}", texts.get(numbers.get(number, ""), "")

@@ -99,8 +99,8 @@ def test_texts() -> None:
     numbers = samples.statuses()
     of_faults = {name: it for name, it in numbers.items() if name not in ("GOOD", "ABSENT", "CHANGED", "NO_EVIDENCE")}
     assert of_faults == {it.name: it.value for it in coniks.Status}, "the header's numbers are Python's"
-    wanted = json.loads((EMBED / "texts.json").read_text("utf-8"))
-    assert wanted.keys() == of_faults.keys(), "texts.json has a text of each fault"
+    wanted = samples.texts()
+    assert wanted.keys() == of_faults.keys(), "formats.toml has a text of each fault"
     texts = {of_faults[name]: text for name, text in wanted.items()}
     assert [coniks.text(it) for it in range(70)] == [texts.get(it, "") for it in range(70)]
 

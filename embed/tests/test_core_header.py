@@ -8,7 +8,7 @@ from pathlib import Path
 
 import pytest
 import tools
-from coniks import _core, _guarding
+from coniks import _core, _formats, _guarding
 from running import INCLUDE, WARNED, needs, run
 
 HEADERS = {name: (INCLUDE / f"coniks_{name}.h").read_text("utf-8") for name in ("core", "guard")}
@@ -138,4 +138,4 @@ def test_calls_in_python(of: str) -> None:
 def test_misuses_in_python() -> None:
     """Each misuse of the core has a number."""
     misuses = re.findall(r"^    CONIKS_CORE_E_(\w+) = (1[34][0-9])\b", HEADERS["core"], re.M)
-    assert {it.name: str(it.value) for it in _core.Misuse} == dict(misuses)
+    assert {it.name: str(it.value) for it in _formats.Misuse} == dict(misuses)

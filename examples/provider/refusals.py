@@ -75,7 +75,7 @@ def try_client(count: Count) -> None:
         ("another name", Cause.WRONG_NAME, "dave", 1, reply("dave")),
         ("an absence", Cause.ROOT_MISMATCH, "alice", 1, reply(proof=proof)),
         ("no entry", Cause.CUT_IN_ENTRY, "alice", 1, reply(entry="")[:200]),
-        ("another directory's entry", Cause.EQUIVOCATION, "alice", 1, reply(entry=signed(flipped(entry[:145], 20)).hex())),
+        ("another directory's entry", Cause.EQUIVOCATION, "alice", 1, reply(entry=signed(flipped(entry[: coniks.BODY_LENGTH], 20)).hex())),
     ]
     for place in range(len(entry)):
         refused.append((f"byte {place} changed", Cause.SIGNATURE, "alice", 1, reply(entry=flipped(entry, place).hex())))
@@ -117,13 +117,13 @@ def named(proof: dict[str, Any], name: str) -> dict[str, Any]:
 
 def try_auditor(count: Count) -> None:
     count.tell("the chain is accepted", [it.epoch for it in audit(KEYS, ENTRIES)] == [1, 2, 3])
-    forged = signed(ENTRIES[1][:145], VRF)
+    forged = signed(ENTRIES[1][: coniks.BODY_LENGTH], VRF)
     for what, wanted, entries in [
         ("a signature under another key", Cause.SIGNATURE, [ENTRIES[0], forged]),
         ("an entry twice", Cause.NOT_LATER, [ENTRIES[0], ENTRIES[0]]),
         ("an entry left out", Cause.PREVIOUS_EPOCH, [ENTRIES[0], ENTRIES[2]]),
         ("an entry that is not the first", Cause.PREVIOUS_EPOCH, [ENTRIES[1]]),
-        ("two first entries", Cause.EQUIVOCATION, [ENTRIES[0], signed(flipped(ENTRIES[0][:145], 20))]),
+        ("two first entries", Cause.EQUIVOCATION, [ENTRIES[0], signed(flipped(ENTRIES[0][: coniks.BODY_LENGTH], 20))]),
     ]:
         found = raised(audit, KEYS, entries)
         count.tell(f"auditor, {what}: {found}", found is wanted)
@@ -135,7 +135,7 @@ def with_number(body: bytes, place: int, number: int) -> bytes:
 
 
 def try_evidence(count: Count) -> None:
-    body, third = ENTRIES[2][:145], ENTRIES[2]
+    body, third = ENTRIES[2][: coniks.BODY_LENGTH], ENTRIES[2]
     other, later = signed(flipped(body, 20)), with_number(with_number(body, 1, 9), 9, 8)
     again = signed_again(body)
     count.tell("one body has two signatures", again != third and is_signed(KEYS.signing, again))
@@ -161,7 +161,7 @@ def try_evidence(count: Count) -> None:
     ]:
         count.tell(f"no evidence: {what}", not convicts(KEYS.signing, one, another) and not convicts(KEYS.signing, another, one))
     count.tell("no evidence under another key", not convicts(KEYS.vrf, third, other))
-    try_chains(count, [*ENTRIES[:2], signed(with_number(ENTRIES[2][:145], 1, 4))])
+    try_chains(count, [*ENTRIES[:2], signed(with_number(ENTRIES[2][: coniks.BODY_LENGTH], 1, 4))])
 
 
 def try_chains(count: Count, forked: list[bytes]) -> None:
@@ -171,7 +171,7 @@ def try_chains(count: Count, forked: list[bytes]) -> None:
         ("of which one begins the other", forked[:2], None),
         ("that are one", ENTRIES, None),
         ("of which one is empty", [], None),
-        ("with two signatures of a body", [*ENTRIES[:2], signed_again(ENTRIES[2][:145])], None),
+        ("with two signatures of a body", [*ENTRIES[:2], signed_again(ENTRIES[2][: coniks.BODY_LENGTH])], None),
     ]
     for what, theirs, wanted in compared:
         count.tell(f"chains {what}", find_evidence(KEYS.signing, ENTRIES, theirs) == wanted)

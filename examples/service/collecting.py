@@ -16,9 +16,10 @@ from itertools import islice, takewhile
 from typing import Callable, Iterable, Mapping, Optional, Sequence, TypeVar, Union
 
 from authorising import Authorise, Request, check_promise
+from coniks._layout import epoch_of
 from coniks.provider import Change, EpochNotLater, EpochNotNow, EpochSpent, Fault, Lookup, Operation, Overtaken
 from coniks.provider import Provider, ProviderError, RecordBehind, Register, RestartNeeded
-from holding import LOG, Holder, epoch_of, error_of
+from holding import LOG, Holder, error_of
 from problems import Problem
 from queueing import Queue, Row
 

@@ -16,10 +16,11 @@ from aiohttp import web
 from aiohttp.typedefs import Handler
 from authorising import Request
 from collecting import Collector, Outcome
+from coniks._layout import epoch_of
 from coniks.provider import Change, Fault, Operation, ProviderError, Register, UnknownEpoch
 from coniks.names import BadName
 from connections import LONGEST, Bounds, Connection, is_here, network_of
-from holding import LOG, epoch_of, error_of, link_of
+from holding import LOG, error_of, link_of
 from looking import Looker
 from observing import LINES, Metrics
 from outside import KeyFailed

@@ -228,10 +228,6 @@ class Holder:
         return self.directory.reply(name, self.keys.proof(name), epoch)
 
 
-def epoch_of(entry: bytes) -> int:
-    return int.from_bytes(entry[1:9], "big")
-
-
 def link_of(entry: bytes) -> bytes:
     return hashlib.sha256(b"S" + entry).digest()
 

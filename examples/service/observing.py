@@ -12,10 +12,11 @@ from functools import lru_cache, partial
 from typing import Any, Callable, Mapping, Optional, TextIO
 
 from collecting import Collector
+from coniks._layout import epoch_of, proof_of_reply
 from coniks.provider import ProviderError, UnknownEpoch
 from coniks.replica import Replica
 from connections import Bounds
-from holding import LOG, epoch_of, error_of
+from holding import LOG, error_of
 from prometheus_client import CollectorRegistry, Counter, Gauge, Histogram, ProcessCollector
 from stapling import Stapler
 
@@ -132,5 +133,4 @@ class Metrics:
 
     def count_lookup(self, reply: bytes) -> None:
         """Counts a lookup by the kind of the end of its proof, which follows the VRF proof."""
-        proof = 212 + int.from_bytes(reply[210:212], "big")
-        (self._present if reply[proof] == 2 else self._absent).inc()
+        (self._present if proof_of_reply(reply)[0] == 2 else self._absent).inc()

@@ -1,8 +1,9 @@
 // The calls of a client that pass a verdict. Each verifies first, and then calls the core in one step, so it sees what other calls have
 // kept until then. Its arguments are the caller's copies.
 
-import { Coniks, KINDS } from "./coniks.js";
+import { Coniks } from "./coniks.js";
 import { Core, NOWHERE } from "./core.js";
+import { KINDS } from "./formats.js";
 import { Refusal, misuse } from "./messages.js";
 import { seconds, whole } from "./values.js";
 

@@ -8,6 +8,7 @@ import { isSame } from "./bytes.js";
 import { Chain, NO_TRUST, SEEN } from "./chain.js";
 import { Coniks } from "./coniks.js";
 import { NOWHERE } from "./core.js";
+import { ENTRY } from "./formats.js";
 import { Refusal } from "./messages.js";
 import { Policy } from "./policy.js";
 import { bytes, nameBytes, seconds, unsigned, whole } from "./values.js";
@@ -21,7 +22,6 @@ import { Verifier } from "./verdicts.js";
  * @typedef {import("./messages.js").Evidence} Evidence
  */
 
-const ENTRY = 209;
 const LONGEST = 2n ** 64n - 1n;
 // Numbers of coniks_core.h, and what its others are here.
 const [GOOD, NOT_CONFIRMED, MISSING] = [0, 139, 5];

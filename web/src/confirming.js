@@ -1,5 +1,6 @@
 // Up to which epoch a quorum of a user's auditors confirms the chain.
 
+import { epochOf } from "./layout.js";
 import { BadNote, SKEW, headOf, readNote, timesOf } from "./notes.js";
 
 /** For how many seconds a head counts at least. */
@@ -53,7 +54,7 @@ export async function agreed(it, service, now) {
   const { auditors, least } = it.trust;
   if (auditors.length === 0) return agreementOf(it, []);
   const carried = await opinionsIn(it, service, now, await service.note(""));
-  const latest = it.client.entries.slice(-2).map((entry) => new DataView(entry.buffer).getBigUint64(1));
+  const latest = it.client.entries.slice(-2).map(epochOf);
   // A service that forks can carry an old note.
   const isRecent = carried.filter((it) => agrees(it) && latest.includes(/** @type {bigint} */ (it.epoch))).length >= least;
   if (isRecent) return agreementOf(it, carried);

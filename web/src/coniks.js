@@ -7,9 +7,6 @@ import { Desk } from "./desk.js";
 
 const GOOD = 0;
 
-/** Why two entries are evidence, by the numbers of coniks.h. */
-export const KINDS = new Map([[1, "overlap"], [2, "other policy"], [3, "malformed"]]);
-
 /**
  * The parts of an entry's body.
  * @typedef {Record<"root" | "previousLink" | "nonce" | "policy", Uint8Array>} Digests

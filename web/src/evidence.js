@@ -1,6 +1,7 @@
 // Evidence that a provider equivocated: two entries with valid signatures of its key that one chain can't have.
 
 import { Coniks } from "./coniks.js";
+import { epochBefore, epochOf } from "./layout.js";
 
 /**
  * A signed entry: the epoch before it, its own, and its bytes.
@@ -15,8 +16,7 @@ const GOOD = 0;
 
 /** @param {Uint8Array} entry @returns {Interval} */
 function intervalOf(entry) {
-  const numbers = new DataView(entry.buffer, entry.byteOffset, entry.byteLength);
-  return { epoch: numbers.getBigUint64(1), before: numbers.getBigUint64(9), entry };
+  return { epoch: epochOf(entry), before: epochBefore(entry), entry };
 }
 
 /** @param {Interval} a @param {Interval} b @returns {number} */

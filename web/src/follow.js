@@ -6,6 +6,7 @@ import { drawingOf } from "./draw.js";
 import { element, hashButton, nameBox } from "./elements.js";
 import { Follower, Unusable } from "./following.js";
 import { browserStore } from "./keeping.js";
+import { epochOf, rootOf } from "./layout.js";
 import { unpacked } from "./packed.js";
 import { alarmSaying, foundSaying, opinionSaying, sumSaying } from "./sayings.js";
 import { counting } from "./words.js";
@@ -91,10 +92,10 @@ function showView({ origin, begun, found, entries, count, faulty }) {
   part("lying").value = String(faulty);
   part("count").textContent = counting(count, "auditor");
   part("trusting").hidden = count === 0;
-  const epochs = entries.map((it) => new DataView(it.buffer).getBigUint64(1));
+  const epochs = entries.map(epochOf);
   const span = epochs.length > 0 ? `, epochs ${epochs[0]} to ${epochs[epochs.length - 1]}` : "";
   part("since").textContent = `Since ${timeText(begun)} (UTC): ${counting(entries.length, "entry", "entries")}${span}. Each is signed, and has the link of the one before.`;
-  const items = entries.map((it, i) => element("li", "", `epoch ${epochs[i]}, root `, hashButton(toHex(it.slice(17, 49)), `the root of epoch ${epochs[i]}`)));
+  const items = entries.map((it, i) => element("li", "", `epoch ${epochs[i]}, root `, hashButton(toHex(rootOf(it)), `the root of epoch ${epochs[i]}`)));
   part("entries").replaceChildren(...items.slice(-SHOWN).reverse());
 }
 

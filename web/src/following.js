@@ -6,6 +6,8 @@
 import { fromHex, isSame, joined, toHex } from "./bytes.js";
 import { Client } from "./client.js";
 import { agreed } from "./confirming.js";
+import { ENTRY } from "./formats.js";
+import { epochBefore, epochOf } from "./layout.js";
 import { Refusal } from "./messages.js";
 import { canonical } from "./names.js";
 import { readPolicy } from "./policy.js";
@@ -43,7 +45,7 @@ import { isSigned, judged, readRecord } from "./vouching.js";
  * @typedef {import("./lines.js").Lookup} Lookup
  */
 
-const [ENTRY, PAGE, REPLY, NOTE] = [209, 209_000, 32_768, 65_536];
+const [PAGE, REPLY, NOTE] = [1000 * ENTRY, 32_768, 65_536];
 /** How often a reply is asked for while epochs pass, or a call is made again while other tabs store something. */
 const TRIES = 5;
 
@@ -72,15 +74,10 @@ function stateIn(kept) {
   return state;
 }
 
-/** @param {Uint8Array} entry @param {number} at @returns {bigint} */
-function numberIn(entry, at) {
-  return new DataView(entry.buffer, entry.byteOffset).getBigUint64(at);
-}
-
 /** The epoch and the key of a reply that was accepted, which shows a key. @param {string} reply */
 function shownBy(reply) {
   const { entry, end } = partsOf(/** @type {Uint8Array} */ (fromHex(reply)));
-  return { epoch: numberIn(entry, 1), key: "key" in end ? end.key : new Uint8Array(0) };
+  return { epoch: epochOf(entry), key: "key" in end ? end.key : new Uint8Array(0) };
 }
 
 /** @param {Uint8Array | null} key @param {Findings} findings @returns {Judgement["verdict"]} */
@@ -309,7 +306,7 @@ export class Follower {
    */
   async #follow(client) {
     const latest = client.entries.at(-1);
-    const start = latest === undefined ? 0n : numberIn(latest, 9);
+    const start = latest === undefined ? 0n : epochBefore(latest);
     let after = start;
     for (;;) {
       const { body } = await this.#got(`/v1/entries?after=${after}`, PAGE);

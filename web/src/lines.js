@@ -2,6 +2,7 @@
 // has the members and the order in which they are read.
 
 import { bigEndian, fromBase64, fromHex, joined } from "./bytes.js";
+import { ENTRY } from "./formats.js";
 
 /**
  * @typedef {{index: Uint8Array, name: string, nonce: Uint8Array, root: Uint8Array, end: End, siblings: Uint8Array[]}} Lookup
@@ -205,7 +206,7 @@ export function lookupIn(object) {
  */
 export function entryOf(object) {
   const bytes = typeof object.entry === "string" ? fromHex(object.entry) : null;
-  return bytes !== null && bytes.length === 209 ? bytes : null;
+  return bytes !== null && bytes.length === ENTRY ? bytes : null;
 }
 
 /**

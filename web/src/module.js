@@ -1,7 +1,8 @@
 // The module for web projects: the calls of the library as functions that throw, classes for an auditor and a monitor, and the client.
 
 import { Client, expectedKey } from "./client.js";
-import { Coniks, KINDS } from "./coniks.js";
+import { Coniks } from "./coniks.js";
+import { BODY, KINDS } from "./formats.js";
 import { Refusal } from "./messages.js";
 import { Policy, readPolicy } from "./policy.js";
 import { Unsupported } from "./schemes.js";
@@ -10,7 +11,6 @@ import { bytes, nameBytes, unsigned } from "./values.js";
 export { Policy, Refusal, Unsupported, readPolicy };
 
 const ABSENT = 1;
-const BODY_BYTES = 145;
 const STATE_BYTES = 80;
 const UNUSED = 7;
 const NO_EVIDENCE = 50;
@@ -132,9 +132,9 @@ class Library {
     written[144] = Number(unsigned(body.version, 8, "the version"));
     const { desk, calls } = this.calls;
     desk.clear();
-    const out = desk.put(new Uint8Array(BODY_BYTES));
+    const out = desk.put(new Uint8Array(BODY));
     calls.coniks_body_bytes(desk.put(written), out);
-    return desk.take(out, BODY_BYTES);
+    return desk.take(out, BODY);
   }
 
   client(signingKey, vrfKey, policy, options) {

@@ -5,6 +5,7 @@ import { bigEndian, isSame, joined, toHex } from "./bytes.js";
 import { Chain } from "./chain.js";
 import { Coniks } from "./coniks.js";
 import { SignedEntries } from "./evidence.js";
+import { bodyOf, policyOf, signatureOf } from "./layout.js";
 import { entryOf, lookupIn, nameBytes, numberOf, objectOf, proofBytes, vrfOf } from "./lines.js";
 import { indexOf } from "./seal.js";
 import { Verifier } from "./verdicts.js";
@@ -50,8 +51,6 @@ import { FAULTS } from "./words.js";
 const PLAIN = { broken: { what: "broken" }, other: { what: "other" }, Json: { what: "unread", fault: "Json" }, Long: { what: "unread", fault: "Long" } };
 
 const VERSION = 1;
-const POLICY = 113;
-const BODY = 145;
 
 /** Most bytes of a VRF proof in a reply. */
 const LONGEST_PROOF = 65_535;
@@ -98,7 +97,7 @@ export class Reading {
   /** Whether an entry's signature is valid, null if none is verified. @param {Uint8Array} entry @returns {Promise<boolean | null>} */
   async isSigned(entry) {
     if (this.keys.signatures === null) return null;
-    const isGood = (await this.keys.signatures.verify(entry.slice(0, BODY), entry.slice(BODY))) === true;
+    const isGood = (await this.keys.signatures.verify(bodyOf(entry), signatureOf(entry))) === true;
     // Anyone can make an entry of the demonstration or of the example, so it is no evidence.
     if (isGood && this.keys.kind === "provider" && !this.keys.isExample) this.signed.add(this.coniks.link(entry), entry);
     return isGood;
@@ -125,7 +124,7 @@ export class Reading {
   /** A client that has the policy digest of an entry. @param {Uint8Array} entry @returns {Promise<Chain>} */
   async begun(entry) {
     const verifier = await Verifier.of(this.keys.signatures ?? UNVERIFIED, this.keys.indices);
-    return Chain.ofDigest(this.coniks, entry.slice(POLICY, BODY), verifier);
+    return Chain.ofDigest(this.coniks, policyOf(entry), verifier);
   }
 
   /** @param {string} line @param {Record<string, any>} object @param {Uint8Array | null} entry @param {boolean | null} isSigned @returns {LookupRow} */

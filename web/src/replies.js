@@ -1,8 +1,10 @@
 // The parts of a reply that a client has accepted, to be drawn and compared (docs/FORMATS.md, "Replies to clients").
 
+import { replyParts } from "./layout.js";
+
 /** @typedef {import("./lines.js").Lookup} Lookup */
 
-const [ENTRY_START, VRF_START, HASH] = [1, 212, 32];
+const HASH = 32;
 
 /** @param {Uint8Array} bytes @param {number} at */
 const shortIn = (bytes, at) => new DataView(bytes.buffer, bytes.byteOffset).getUint16(at);
@@ -15,11 +17,11 @@ const hashIn = (bytes, at) => bytes.slice(at, at + HASH);
  * @returns {{entry: Uint8Array, vrf: Uint8Array} & Pick<Lookup, "siblings" | "end">}
  */
 export function partsOf(reply) {
-  const proof = VRF_START + shortIn(reply, VRF_START - 2);
+  const { entry, vrf, proof } = replyParts(reply);
   const [kind, count] = [reply[proof], shortIn(reply, proof + 1)];
   const siblings = Array.from({ length: count }, (_, k) => hashIn(reply, proof + 3 + HASH * k));
   const end = endOf(kind, reply.slice(proof + 3 + HASH * count));
-  return { entry: reply.slice(ENTRY_START, VRF_START - 2), vrf: reply.slice(VRF_START, proof), siblings, end };
+  return { entry, vrf, siblings, end };
 }
 
 /** @param {number} kind @param {Uint8Array} bytes @returns {Lookup["end"]} */

@@ -1,9 +1,9 @@
 // The verdicts on signatures and VRF proofs, which a client passes to the core. Each of them is made here, and nowhere else. The core
 // proves nothing about signatures: an entry or an index that is wrongly taken for valid here is accepted.
 
+import { ENTRY } from "./formats.js";
+import { bodyOf, signatureOf } from "./layout.js";
 import { indicesOf, signaturesOf } from "./schemes.js";
-
-const [ENTRY, BODY] = [209, 145];
 
 /** Verifies the signatures of one key, and the proofs of one VRF. */
 export class Verifier {
@@ -22,7 +22,7 @@ export class Verifier {
 
   /** Whether an entry has its length, and a valid signature. @param {Uint8Array} entry @returns {Promise<boolean>} */
   async ofEntry(entry) {
-    return entry.length === ENTRY && this.#isSigned(entry.slice(0, BODY), entry.slice(BODY));
+    return entry.length === ENTRY && this.#isSigned(bodyOf(entry), signatureOf(entry));
   }
 
   /** Whether each entry of a state is signed. @param {Uint8Array[]} entries @returns {Promise<boolean[]>} */

@@ -29,91 +29,92 @@ use Rattle.coniks_client.specs.declared.histories.faults.HistoryFault.{HistoryFa
 use Rattle.coniks_client.specs.declared.histories.faults.HistoryFault.TheVariants as history
 use Rattle.coniks_quorum.specs.declared.states.reading.StateFault.{StateFault}
 use Rattle.coniks_quorum.specs.declared.states.reading.StateFault.TheVariants as state
+use Rattle.coniks_c.specs.Numbers.{auditors_differ, cut_in_entry, cut_in_step, cut_in_vrf, end_repeated, entry_length, epoch_order, equivocation, evidence_malformed, future, good, history_version, malformed, misuse_change_open, misuse_no_room, misuse_not_confirmed, misuse_not_later, misuse_same_key, no_history, no_reply, not_vouched, other_epoch, other_policy, reply_version, sibling_map, sibling_repeated, signature, stale, state_damaged, state_form, state_length, state_policy, state_version, too_deep, unknown_end, unknown_epoch, vrf_proof}
 use Rattle.coniks_c.specs.Statuses.{number_of_kind}
 use Rattle.coniks_c.specs.declared.core_values.RawWhy.{RawWhy}
 
 -- an entry that is none of the directory
 abbrev pub entry_status : EntryFault → ℕ
-entry_status EntryLength = 48
-entry_status Signature = 40
-entry_status (OtherPolicy conviction) = 80
-entry_status (Malformed conviction) = 81
+entry_status EntryLength = entry_length
+entry_status Signature = signature
+entry_status (OtherPolicy conviction) = other_policy
+entry_status (Malformed conviction) = malformed
 
 -- an entry that does not continue the chain
 abbrev pub feed_status : FeedFault → ℕ
 feed_status (feed.OfEntry fault) = entry_status fault
-feed_status (feed.Equivocation evidence fault) = 82
+feed_status (feed.Equivocation evidence fault) = equivocation
 feed_status (feed.NotNext fault) = place_of fault + 33
 
 -- bytes that are no reply
 abbrev pub reply_status : ReplyFault → ℕ
-reply_status reply.NoReply = 64
-reply_status reply.ReplyVersion = 65
-reply_status reply.CutInEntry = 66
-reply_status reply.CutInVrf = 67
+reply_status reply.NoReply = no_reply
+reply_status reply.ReplyVersion = reply_version
+reply_status reply.CutInEntry = cut_in_entry
+reply_status reply.CutInVrf = cut_in_vrf
 
 -- a latest epoch that is not that of the present
 abbrev pub age_status : AgeFault → ℕ
-age_status Stale = 85
-age_status Future = 86
+age_status Stale = stale
+age_status Future = future
 
 -- a refused reply
 abbrev pub lookup_status : LookupFault → ℕ
 lookup_status (lookup.NoReply fault) = reply_status fault
 lookup_status (lookup.OfEntry fault) = entry_status fault
-lookup_status (lookup.Equivocation evidence) = 82
-lookup_status lookup.UnknownEpoch = 83
-lookup_status lookup.OtherEpoch = 84
+lookup_status (lookup.Equivocation evidence) = equivocation
+lookup_status lookup.UnknownEpoch = unknown_epoch
+lookup_status lookup.OtherEpoch = other_epoch
 lookup_status (lookup.OffTime fault) = age_status fault
-lookup_status lookup.VrfProof = 87
+lookup_status lookup.VrfProof = vrf_proof
 lookup_status (lookup.Wire fault) = order fault + 16
 lookup_status (lookup.Check fault) = number fault + 1
 
 -- bytes that are no history
 abbrev pub history_status : HistoryFault → ℕ
-history_status history.NoHistory = 69
-history_status history.HistoryVersion = 70
-history_status history.CutInVrf = 67
-history_status history.CutInStep = 71
-history_status history.EpochOrder = 72
-history_status history.UnknownEnd = 73
-history_status history.TooDeep = 2
-history_status history.SiblingMap = 74
-history_status history.SiblingRepeated = 75
-history_status history.EndRepeated = 76
+history_status history.NoHistory = no_history
+history_status history.HistoryVersion = history_version
+history_status history.CutInVrf = cut_in_vrf
+history_status history.CutInStep = cut_in_step
+history_status history.EpochOrder = epoch_order
+history_status history.UnknownEnd = unknown_end
+history_status history.TooDeep = too_deep
+history_status history.SiblingMap = sibling_map
+history_status history.SiblingRepeated = sibling_repeated
+history_status history.EndRepeated = end_repeated
 
 -- a refused history
 abbrev pub accept_status : AcceptFault → ℕ
 accept_status (accept.NoHistory fault) = history_status fault
-accept_status accept.VrfProof = 87
-accept_status accept.NoRoom = 137
-accept_status accept.UnknownEpoch = 83
+accept_status accept.VrfProof = vrf_proof
+accept_status accept.NoRoom = misuse_no_room
+accept_status accept.UnknownEpoch = unknown_epoch
 accept_status (accept.Check fault) = number fault + 1
 
 -- bytes that are no state
 abbrev pub state_status : StateFault → ℕ
-state_status state.StateLength = 96
-state_status state.StateVersion = 97
-state_status state.StateDamaged = 98
-state_status state.StatePolicy = 99
-state_status state.StateForm = 100
+state_status state.StateLength = state_length
+state_status state.StateVersion = state_version
+state_status state.StateDamaged = state_damaged
+state_status state.StatePolicy = state_policy
+state_status state.StateForm = state_form
 
 -- a change that can't be expected
 abbrev pub expect_status : ExpectFault → ℕ
-expect_status ChangeOpen = 134
-expect_status SameKey = 135
-expect_status NotLater = 136
+expect_status ChangeOpen = misuse_change_open
+expect_status SameKey = misuse_same_key
+expect_status NotLater = misuse_not_later
 
 -- a first entry of a client that starts late that is refused
 abbrev pub start_status : StartFault → ℕ
 start_status (start.OfEntry fault) = entry_status fault
-start_status (start.AuditorsDiffer place) = 105
-start_status start.NotVouched = 104
+start_status (start.AuditorsDiffer place) = auditors_differ
+start_status start.NotVouched = not_vouched
 
 -- whether a client may rely on an epoch
 abbrev pub reliance_status : Reliance → ℕ
-reliance_status ReliedOn = 0
-reliance_status Unconfirmed = 139
+reliance_status ReliedOn = good
+reliance_status Unconfirmed = misuse_not_confirmed
 
 -- nothing more is to be said
 abbrev pub no_more : RawWhy
@@ -125,7 +126,7 @@ convicted status evidence = record { status = status; kind = number_of_kind evid
 
 -- the refused entry convicts alone
 abbrev pub alone : RawWhy
-alone = record { status = 0; kind = 3; mine = 2 ^ 64 - 1 }
+alone = record { status = 0; kind = evidence_malformed; mine = 2 ^ 64 - 1 }
 
 -- what convicts with a refused entry
 abbrev pub why_of_conviction : Conviction → RawWhy

@@ -13,6 +13,7 @@ use Rattle.coniks_chain.specs.declared.guard_record.Answer.{Answer}
 use Rattle.coniks_chain.specs.declared.guard_record.Answer.TheVariants.{Abandoned, Signed, Unsettled}
 use Rattle.coniks_chain.specs.declared.guard_record.RawBody.{RawBody}
 use Rattle.coniks_chain.specs.declared.guard_record.RawHeld.{RawHeld}
+use Rattle.coniks_c.specs.Numbers.{guard_malformed, guard_may_be_signed, guard_no_entry, guard_not_asked, guard_other_bodies, guard_other_open, guard_record_old}
 
 -- the record whose abandoned bodies are these
 abbrev pub record_in : RawHeld → List RawBody → Guarded
@@ -20,22 +21,22 @@ record_in raw abandoned = with_abandoned (held_in raw) (bodies_in abandoned)
 
 -- a body that the key must not sign
 abbrev pub ask_status : AskFault → ℕ
-ask_status fault = ask_place fault + 112
+ask_status fault = ask_place fault + guard_malformed
 
 -- a signature that is not stored
 abbrev pub sign_status : SignFault → ℕ
-sign_status sign.NotAsked = 123
-sign_status sign.OtherOpen = 122
+sign_status sign.NotAsked = guard_not_asked
+sign_status sign.OtherOpen = guard_other_open
 
 -- a body that can't be abandoned
 abbrev pub abandon_status : AbandonFault → ℕ
-abandon_status MayBeSigned = 124
-abandon_status RecordOld = 125
+abandon_status MayBeSigned = guard_may_be_signed
+abandon_status RecordOld = guard_record_old
 
 -- an entry that can't be adopted
 abbrev pub adopt_status : AdoptFault → ℕ
-adopt_status OtherBodies = 126
-adopt_status NoEntry = 127
+adopt_status OtherBodies = guard_other_bodies
+adopt_status NoEntry = guard_no_entry
 
 -- what a record says of a body
 abbrev pub answer_number : Answer → ℕ

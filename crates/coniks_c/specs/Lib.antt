@@ -1,5 +1,6 @@
 pub mod Checked
 pub mod Crossing
+pub mod Numbers
 pub mod Statuses
 pub mod Texts
 pub mod Watched

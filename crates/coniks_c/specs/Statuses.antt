@@ -11,25 +11,26 @@ use Rattle.coniks_chain.specs.declared.evidence.EvidenceKind.{EvidenceKind}
 use Rattle.coniks_chain.specs.declared.evidence.EvidenceKind.TheVariants.{Overlap, OtherPolicy, Malformed}
 use Rattle.coniks_chain.specs.declared.seen.Seen.{Seen}
 use Rattle.coniks_chain.specs.declared.seen.Seen.TheVariants.{Same, Changed, Absent}
+use Rattle.coniks_c.specs.Numbers.{absent, changed, entry_length, evidence_malformed, evidence_other_policy, evidence_overlap, good, no_entry}
 use Rattle.coniks_c.specs.declared.text.Refusal.{Refusal}
 use Rattle.coniks_c.specs.declared.text.Refusal.TheVariants.{Check, Wire, Audit, EntryLength, NoEntry}
 
 -- the status of an accepted answer
 abbrev pub status_of_answer : Option Octets → ℕ
-status_of_answer (Some key) = 0
-status_of_answer None = 1
+status_of_answer (Some key) = good
+status_of_answer None = absent
 
 -- the status of what a client sees
 abbrev pub status_of_seen : Seen → ℕ
-status_of_seen Same = 0
-status_of_seen Absent = 1
-status_of_seen Changed = 9
+status_of_seen Same = good
+status_of_seen Absent = absent
+status_of_seen Changed = changed
 
 -- the number of a kind of evidence
 abbrev pub number_of_kind : EvidenceKind → ℕ
-number_of_kind Overlap = 1
-number_of_kind OtherPolicy = 2
-number_of_kind Malformed = 3
+number_of_kind Overlap = evidence_overlap
+number_of_kind OtherPolicy = evidence_other_policy
+number_of_kind Malformed = evidence_malformed
 
 -- an error of a proof, of bytes that are not a proof, and of an entry
 abbrev pub IsCheckStatus : ℕ → Type 0
@@ -50,5 +51,5 @@ abbrev pub refusal_status : Refusal → ℕ
 refusal_status (Check fault) = number fault + 1
 refusal_status (Wire fault) = order fault + 16
 refusal_status (Audit fault) = place_of fault + 33
-refusal_status EntryLength = 48
-refusal_status NoEntry = 49
+refusal_status EntryLength = entry_length
+refusal_status NoEntry = no_entry

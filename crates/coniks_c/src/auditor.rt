@@ -10,7 +10,8 @@ ghost use Rattle.coniks_c.specs.Crossing.{IsToldBy, IsZero, before_in};
 ghost use Rattle.coniks_c.specs.Statuses.{IsAuditStatus};
 
 use crate::entries::entry_of;
-use crate::status::{ENTRY_LENGTH, GOOD, NO_ENTRY, audit_status};
+use crate::numbers;
+use crate::status::audit_status;
 use crate::values::{Bytes32, RawAuditorState};
 use coniks_chain::{Auditor, BODY_BYTES, ENTRY_BYTES, Signature, Verify};
 use coniks_proof::Sha256Hash;
@@ -62,7 +63,7 @@ pub extern "C" fn coniks_auditor_feed(
     ensures unchanged { result ≢ 0 → state.new ≡ state.old }
 {
     let Some(entry) = entry_of(entry) else {
-        return ENTRY_LENGTH;
+        return numbers::ENTRY_LENGTH;
     };
     let told = Told {
         signature: signature_verdict,
@@ -74,7 +75,7 @@ pub extern "C" fn coniks_auditor_feed(
     if let Some(before) = auditor.state() {
         *state = RawAuditorState::after(&before);
     }
-    GOOD
+    numbers::GOOD
 }
 
 /// Writes the epoch and the link of the last accepted entry. Returns 0, or 49 if there was none, and writes nothing then.
@@ -88,10 +89,10 @@ pub extern "C" fn coniks_auditor_head(
     ensures none { IfNone (before_in state.now) ((result ≡ 49) × (epoch.new ≡ epoch.old) × (link.new ≡ link.old)) }
 {
     let Some(before) = state.state() else {
-        return NO_ENTRY;
+        return numbers::NO_ENTRY;
     };
     *epoch = before.t;
     let bytes = before.link.0;
     *link = Bytes32 { bytes };
-    GOOD
+    numbers::GOOD
 }

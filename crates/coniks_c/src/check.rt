@@ -9,7 +9,8 @@ ghost use Rattle.coniks_proof.specs.Wire.{IsFirstFault, WireHas, order};
 ghost use Rattle.coniks_proof.specs.declared.checker.CheckFault.{CheckFault as Fault};
 ghost use Rattle.coniks_proof.specs.declared.wire.WireFault.{WireFault as Unread};
 
-use crate::status::{ABSENT, GOOD, check_status, wire_status};
+use crate::numbers;
+use crate::status::{check_status, wire_status};
 use crate::values::Bytes32;
 use coniks_proof::{Answer, Digest, Index, Nonce, ProofRef, Sha256Hash, check_ref};
 
@@ -48,9 +49,9 @@ pub extern "C" fn coniks_check(
         Ok(Answer::Key(key)) => {
             *key_start = proof.len() - key.len();
             *key_length = key.len();
-            GOOD
+            numbers::GOOD
         }
-        Ok(Answer::Absent) => ABSENT,
+        Ok(Answer::Absent) => numbers::ABSENT,
         Err(fault) => check_status(fault),
     }
 }

@@ -16,7 +16,7 @@ ghost use Rattle.coniks_c.specs.Crossing.{IsToldBy};
 use crate::auditor::Told;
 use crate::core_status::entry_status;
 use crate::core_values::RawWhy;
-use crate::status::{GOOD, NO_EVIDENCE};
+use crate::numbers;
 use crate::values::Bytes32;
 use coniks_client::{Comparison, Kept, compare, evidence_of, signed};
 use coniks_proof::{Digest, Head, Sha256Hash};
@@ -78,8 +78,8 @@ pub extern "C" fn coniks_core_evidence(
     match evidence_of(kept, &entry) {
         Some(evidence) => {
             *why = RawWhy::convicted(0, &evidence);
-            GOOD
+            numbers::GOOD
         }
-        None => NO_EVIDENCE,
+        None => numbers::NO_EVIDENCE,
     }
 }

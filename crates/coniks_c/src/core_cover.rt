@@ -15,9 +15,8 @@ ghost use Rattle.coniks_c.specs.CoreTold.{present_in};
 
 use crate::core_quorum::confirmed_to;
 use crate::core_report::RawPromise;
-use crate::core_status::NO_ROOM;
 use crate::core_values::{RawPresent, RawWatch};
-use crate::status::GOOD;
+use crate::numbers;
 use coniks_client::{Change, Kept, latest_epoch, settle};
 use coniks_quorum::alarms::{Alarm, alarms_in, append_alarms, noted};
 use coniks_quorum::covering::coverable;
@@ -189,7 +188,7 @@ pub extern "C" fn coniks_core_cover<'a>(
 {
     laws::alarms();
     if *count > kept.len() || *change_count > changes.len() {
-        return NO_ROOM;
+        return numbers::MISUSE_NO_ROOM;
     }
     let confirmed = confirmed_to(marks, quorum);
     let dropped = coverable(
@@ -200,7 +199,7 @@ pub extern "C" fn coniks_core_cover<'a>(
     );
     let more = alarms_left(watch, &kept[..dropped]);
     if *alarm_count > alarms.len() || more > alarms.len() - *alarm_count {
-        return NO_ROOM;
+        return numbers::MISUSE_NO_ROOM;
     }
     let mut said = RawCovered::of(&kept[..dropped], more);
     *alarm_count = put_alarms(watch, &kept[..dropped], alarms, *alarm_count);
@@ -209,7 +208,7 @@ pub extern "C" fn coniks_core_cover<'a>(
     said.changes = settle_watch(&kept[..*count], watch, changes, *change_count);
     *change_count -= said.changes;
     *covered = said;
-    GOOD
+    numbers::GOOD
 }
 
 /// Takes note of the alarms up to an epoch: drops the first ones, as long as their epoch is this one or an earlier one.
@@ -224,10 +223,10 @@ pub extern "C" fn coniks_core_note(alarms: &mut [Alarm], alarm_count: &mut usize
     ensures unchanged { result ≢ 0 → (alarms.new ≡ alarms.old) × (alarm_count.new ≡ alarm_count.old) }
 {
     if *alarm_count > alarms.len() {
-        return NO_ROOM;
+        return numbers::MISUSE_NO_ROOM;
     }
     let gone = noted(&alarms[..*alarm_count], epoch);
     move_front(alarms, gone, *alarm_count);
     *alarm_count -= gone;
-    GOOD
+    numbers::GOOD
 }

@@ -21,9 +21,9 @@ ghost use Rattle.coniks_c.specs.CoreTold.{watch_in};
 ghost use Rattle.coniks_c.specs.Crossing.{IsToldBy};
 
 use crate::auditor::Told;
-use crate::core_status::{NO_ROOM, feed_status};
+use crate::core_status::feed_status;
 use crate::core_values::{RawWatch, RawWhy};
-use crate::status::GOOD;
+use crate::numbers;
 use crate::values::Bytes32;
 use coniks_client::{Accepted, Fed, Kept, feed};
 use coniks_proof::Sha256Hash;
@@ -110,7 +110,7 @@ pub extern "C" fn coniks_core_feed(
 {
     laws::clients();
     if *count > kept.len() {
-        return NO_ROOM;
+        return numbers::MISUSE_NO_ROOM;
     }
     let told = Told {
         signature: signature_verdict,
@@ -123,11 +123,11 @@ pub extern "C" fn coniks_core_feed(
     match feed(Sha256Hash, &told, &kept[..*count], &watch.watch(), &fed) {
         Ok(accepted) => {
             if !has_place(*count, kept.len(), &accepted) {
-                return NO_ROOM;
+                return numbers::MISUSE_NO_ROOM;
             }
             store(kept, count, &accepted);
             reset_marks(marks, &accepted);
-            GOOD
+            numbers::GOOD
         }
         Err(fault) => {
             *why = RawWhy::of_feed(&fault);

@@ -17,9 +17,9 @@ ghost use Rattle.coniks_c.specs.Checked.{part};
 ghost use Rattle.coniks_c.specs.CoreStatuses.{accept_status, history_status};
 ghost use Rattle.coniks_c.specs.CoreTold.{IsIndexedBy, watch_in};
 
-use crate::core_status::{CATCH_UP_LENGTH, accept_status, history_status};
+use crate::core_status::{accept_status, history_status};
 use crate::core_values::{RawVerdicts, RawWatch, ToldIndex};
-use crate::status::GOOD;
+use crate::numbers;
 use coniks_client::histories::{
     AskingHistory, HistoryVerifier, ShownStep, accept, history_parts, read_catch_up,
 };
@@ -65,7 +65,7 @@ pub extern "C" fn coniks_core_history_needs(history: &[u8], needs: &mut RawHisto
                 vrf_start: 3,
                 vrf_length: parts.vrf.len(),
             };
-            GOOD
+            numbers::GOOD
         }
         Err(fault) => history_status(&fault),
     }
@@ -133,7 +133,7 @@ pub extern "C" fn coniks_core_history<'a>(
     ) {
         Ok(many) => {
             *count = many;
-            GOOD
+            numbers::GOOD
         }
         Err(fault) => accept_status(&fault),
     }
@@ -151,8 +151,8 @@ pub extern "C" fn coniks_core_catch_up(bytes: &[u8], count: &mut usize) -> u32
     match read_catch_up(bytes) {
         Ok(entries) => {
             *count = entries.len();
-            GOOD
+            numbers::GOOD
         }
-        Err(_) => CATCH_UP_LENGTH,
+        Err(_) => numbers::CATCH_UP_LENGTH,
     }
 }

@@ -20,7 +20,7 @@ use crate::core_status::{lookup_status, reply_status};
 use crate::core_values::{
     RawAsking, RawFound, RawNeeds, RawPresent, RawVerdicts, RawWatch, RawWhy, ToldIndex,
 };
-use crate::status::GOOD;
+use crate::numbers;
 use crate::values::Bytes32;
 use coniks_chain::ENTRY_BYTES;
 use coniks_client::{Asking, Change, Kept, Reply, Verifier, is_kept, look_up};
@@ -50,7 +50,7 @@ pub extern "C" fn coniks_core_reply_needs(kept: &[Kept], reply: &[u8], needs: &m
                 vrf_start: 212,
                 vrf_length: parts.vrf.len(),
             };
-            GOOD
+            numbers::GOOD
         }
         Err(fault) => reply_status(&fault),
     }
@@ -112,7 +112,7 @@ pub extern "C" fn coniks_core_lookup(
     match look_up(&by, kept, &watch.watch(), changes, &asked) {
         Ok(shown) => {
             *found = RawFound::of(&shown, asking.reply);
-            GOOD
+            numbers::GOOD
         }
         Err(fault) => {
             *why = RawWhy::of_lookup(&fault);

@@ -14,8 +14,8 @@ ghost use Rattle.coniks_c.specs.CoreQuorum.{ConfirmsTo};
 ghost use Rattle.coniks_c.specs.CoreStatuses.{reliance_status};
 ghost use Rattle.coniks_c.specs.CoreTold.{comparison_number};
 
-use crate::core_status::{NO_AUDITOR, NOT_CONFIRMED, UNKNOWN_EPOCH, reliance_status};
-use crate::status::GOOD;
+use crate::core_status::reliance_status;
+use crate::numbers;
 use crate::values::Bytes32;
 use coniks_client::{Comparison, Kept};
 use coniks_proof::{Digest, Head, Sha256Hash};
@@ -82,7 +82,7 @@ pub extern "C" fn coniks_core_mark(
         → AreMarks sha256 auditors (dropped ++ kept.now) marks.old → AreMarks sha256 auditors (dropped ++ kept.now) marks.new }
 {
     if place >= marks.len() {
-        return NO_AUDITOR;
+        return numbers::MISUSE_NO_AUDITOR;
     }
     let head = Head {
         epoch,
@@ -105,9 +105,9 @@ pub extern "C" fn coniks_core_confirmed(marks: &[u64], quorum: usize, epoch: &mu
     match confirmed_to(marks, quorum) {
         Some(greatest) => {
             *epoch = greatest;
-            GOOD
+            numbers::GOOD
         }
-        None => NOT_CONFIRMED,
+        None => numbers::MISUSE_NOT_CONFIRMED,
     }
 }
 
@@ -131,6 +131,6 @@ pub extern "C" fn coniks_core_relied(
 {
     match kept.get(place) {
         Some(mine) => reliance_status(reliance_on(mine, confirmed_to(marks, quorum))),
-        None => UNKNOWN_EPOCH,
+        None => numbers::UNKNOWN_EPOCH,
     }
 }

@@ -15,9 +15,8 @@ ghost use Rattle.coniks_c.specs.CoreQuorum.{ConfirmsTo, promise_in, raw_report};
 ghost use Rattle.coniks_c.specs.CoreTold.{present_in};
 
 use crate::core_quorum::confirmed_to;
-use crate::core_status::NOT_WATCHING;
 use crate::core_values::{RawPresent, RawWatch};
-use crate::status::GOOD;
+use crate::numbers;
 use coniks_client::Kept;
 use coniks_quorum::alarms::Alarm;
 use coniks_quorum::lost::Promise;
@@ -114,7 +113,7 @@ pub extern "C" fn coniks_core_report(
     ensures sure { result ≡ 0 → report.new.verdict ≡ 6 → (to : ℕ) × IsGreatest marks.now quorum to × (report.new.to ≤ to) }
 {
     if watch.is_watched != 1 {
-        return NOT_WATCHING;
+        return numbers::MISUSE_NOT_WATCHING;
     }
     let view = View {
         kept,
@@ -125,5 +124,5 @@ pub extern "C" fn coniks_core_report(
     };
     let outcome = report_of(&view, confirmed_to(marks, quorum));
     *report = RawReport::of(&outcome);
-    GOOD
+    numbers::GOOD
 }

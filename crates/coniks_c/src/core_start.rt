@@ -17,9 +17,9 @@ ghost use Rattle.coniks_c.specs.CoreTold.{watch_in};
 ghost use Rattle.coniks_c.specs.Crossing.{IsToldBy};
 
 use crate::auditor::Told;
-use crate::core_status::{HAS_ENTRIES, MANY_HEADS, NO_QUORUM, NO_ROOM, start_status};
+use crate::core_status::start_status;
 use crate::core_values::{RawWatch, RawWhy};
-use crate::status::GOOD;
+use crate::numbers;
 use crate::values::Bytes32;
 use coniks_client::Kept;
 use coniks_client::watching::UNWATCHED;
@@ -69,15 +69,15 @@ fn misused_start(count: usize, quorum: usize, heads: usize, room: usize) -> u32
     ensures { result ≡ misused_start count quorum heads room }
 {
     if count > 0 {
-        HAS_ENTRIES
+        numbers::MISUSE_HAS_ENTRIES
     } else if quorum == 0 {
-        NO_QUORUM
+        numbers::MISUSE_NO_QUORUM
     } else if heads > MAX_AUDITORS {
-        MANY_HEADS
+        numbers::MISUSE_MANY_HEADS
     } else if room == 0 {
-        NO_ROOM
+        numbers::MISUSE_NO_ROOM
     } else {
-        GOOD
+        numbers::GOOD
     }
 }
 
@@ -141,7 +141,7 @@ pub extern "C" fn coniks_core_start(
     ensures confirmed { result ≡ 0 → IsGreatest (marks_of sha256 (take 1 kept.new) (heads_in heads.now)) quorum (entry_from entry.now).body.t }
 {
     let misused = misused_start(*count, quorum, heads.len(), kept.len());
-    if misused != GOOD {
+    if misused != numbers::GOOD {
         return misused;
     }
     let told = Told {
@@ -158,7 +158,7 @@ pub extern "C" fn coniks_core_start(
             let seen = first_number(watch, mine.epoch());
             put_first(kept, &mine, seen);
             *count = 1;
-            GOOD
+            numbers::GOOD
         }
         Err(fault) => {
             *why = RawWhy::of_start(&fault);

@@ -18,9 +18,9 @@ ghost use Rattle.coniks_c.specs.CoreStatuses.{state_status};
 ghost use Rattle.coniks_c.specs.CoreTold.{watch_in};
 
 use crate::auditor::Told;
-use crate::core_status::{NO_ROOM, NO_STATE, STATE_CHAIN, state_status};
+use crate::core_status::state_status;
 use crate::core_values::RawWatch;
-use crate::status::GOOD;
+use crate::numbers;
 use crate::values::Bytes32;
 use coniks_client::{Change, Kept};
 use coniks_proof::Sha256Hash;
@@ -106,9 +106,9 @@ pub extern "C" fn coniks_core_state_size(
     match size_of(&client) {
         Some(needed) => {
             *size = needed;
-            GOOD
+            numbers::GOOD
         }
-        None => NO_STATE,
+        None => numbers::MISUSE_NO_STATE,
     }
 }
 
@@ -131,17 +131,17 @@ pub extern "C" fn coniks_core_state_write(
 {
     let client = client_of(policy, saved);
     let Some(needed) = size_of(&client) else {
-        return NO_STATE;
+        return numbers::MISUSE_NO_STATE;
     };
     if out.len() < needed {
-        return NO_ROOM;
+        return numbers::MISUSE_NO_ROOM;
     }
     match write(&Sha256Hash, &client, out) {
         Some(written) => {
             *size = written;
-            GOOD
+            numbers::GOOD
         }
-        None => NO_ROOM,
+        None => numbers::MISUSE_NO_ROOM,
     }
 }
 
@@ -177,7 +177,7 @@ pub extern "C" fn coniks_core_state_needs(
                 entry_start: FIRST_ENTRY,
                 entry_step: KEPT_BYTES,
             };
-            GOOD
+            numbers::GOOD
         }
         Err(fault) => state_status(&fault),
     }
@@ -274,10 +274,10 @@ fn read_verified<'a>(
         Err(fault) => return Err(state_status(&fault)),
     };
     if !has_room(room, &parts) {
-        return Err(NO_ROOM);
+        return Err(numbers::MISUSE_NO_ROOM);
     }
     if !is_restored(policy, &parts, verdicts) {
-        return Err(STATE_CHAIN);
+        return Err(numbers::STATE_CHAIN);
     }
     Ok(parts)
 }
@@ -380,7 +380,7 @@ pub extern "C" fn coniks_core_state_read<'a>(
             *alarm_count = put_alarms(&parts, alarms);
             *watch = watch_of(&parts);
             parts.copy_marks(&trust.bytes, marks);
-            GOOD
+            numbers::GOOD
         }
         Err(status) => status,
     }

@@ -4,7 +4,8 @@ ghost use Rattle.std.specs.Prelude.{◌≡◌};
 ghost use Rattle.coniks_c.specs.CoreStatuses.{accept_status, age_status, convicted, entry_status, expect_status, feed_status, history_status, lookup_status, no_more, reliance_status, reply_status, start_status, state_status, why_of_conviction, why_of_entry, why_of_feed, why_of_lookup, why_of_start};
 
 use crate::core_values::RawWhy;
-use crate::status::{ENTRY_LENGTH, GOOD, audit_status, check_status, kind_number, wire_status};
+use crate::numbers;
+use crate::status::{audit_status, check_status, kind_number, wire_status};
 use coniks_chain::Evidence;
 use coniks_client::histories::{AcceptFault, HistoryFault};
 use coniks_client::{
@@ -14,57 +15,15 @@ use coniks_quorum::relying::Reliance;
 use coniks_quorum::states::StateFault;
 use coniks_quorum::vouching::StartFault;
 
-/// The number of a catch-up's bytes is not a multiple of 209.
-pub const CATCH_UP_LENGTH: u32 = 68;
-
-/// The client keeps no epoch at a place, or at the asked number.
-pub const UNKNOWN_EPOCH: u32 = 83;
-
-/// The kept epochs of a state are no chain of entries whose signatures are valid.
-pub const STATE_CHAIN: u32 = 101;
-
-/// The name that is watched has no byte, or more than 255.
-pub const NAME: u32 = 130;
-
-/// An expected key has 2^32 bytes or more.
-pub const EXPECTED_KEY: u32 = 131;
-
-/// The client watches another name, another key, or from another epoch on.
-pub const OTHER_WATCH: u32 = 132;
-
-/// No name is watched.
-pub const NOT_WATCHING: u32 = 133;
-
-/// The caller's memory has no room for what is to be written.
-pub const NO_ROOM: u32 = 137;
-
-/// There is no mark of this auditor.
-pub const NO_AUDITOR: u32 = 138;
-
-/// No quorum of auditors confirms an epoch, or this one.
-pub const NOT_CONFIRMED: u32 = 139;
-
-/// A client that starts has an entry already.
-pub const HAS_ENTRIES: u32 = 140;
-
-/// The quorum is 0.
-pub const NO_QUORUM: u32 = 141;
-
-/// There are more than 64 heads.
-pub const MANY_HEADS: u32 = 142;
-
-/// A client has no state: it has too many kept epochs or changes, too long a key, or a name that can't be watched.
-pub const NO_STATE: u32 = 143;
-
 /// Returns the status of an entry that is none of the directory.
 pub fn entry_status(fault: &EntryFault) -> u32
     ensures { result ≡ entry_status fault.now }
 {
     match fault {
-        EntryFault::EntryLength => ENTRY_LENGTH,
-        EntryFault::Signature => 40,
-        EntryFault::OtherPolicy(_) => 80,
-        EntryFault::Malformed(_) => 81,
+        EntryFault::EntryLength => numbers::ENTRY_LENGTH,
+        EntryFault::Signature => numbers::SIGNATURE,
+        EntryFault::OtherPolicy(_) => numbers::OTHER_POLICY,
+        EntryFault::Malformed(_) => numbers::MALFORMED,
     }
 }
 
@@ -74,7 +33,7 @@ pub fn feed_status(fault: &FeedFault) -> u32
 {
     match fault {
         FeedFault::OfEntry(fault) => entry_status(fault),
-        FeedFault::Equivocation(_, _) => 82,
+        FeedFault::Equivocation(_, _) => numbers::EQUIVOCATION,
         FeedFault::NotNext(fault) => audit_status(*fault),
     }
 }
@@ -84,10 +43,10 @@ pub fn reply_status(fault: &ReplyFault) -> u32
     ensures { result ≡ reply_status fault.now }
 {
     match fault {
-        ReplyFault::NoReply => 64,
-        ReplyFault::ReplyVersion => 65,
-        ReplyFault::CutInEntry => 66,
-        ReplyFault::CutInVrf => 67,
+        ReplyFault::NoReply => numbers::NO_REPLY,
+        ReplyFault::ReplyVersion => numbers::REPLY_VERSION,
+        ReplyFault::CutInEntry => numbers::CUT_IN_ENTRY,
+        ReplyFault::CutInVrf => numbers::CUT_IN_VRF,
     }
 }
 
@@ -96,8 +55,8 @@ fn age_status(fault: &AgeFault) -> u32
     ensures { result ≡ age_status fault.now }
 {
     match fault {
-        AgeFault::Stale => 85,
-        AgeFault::Future => 86,
+        AgeFault::Stale => numbers::STALE,
+        AgeFault::Future => numbers::FUTURE,
     }
 }
 
@@ -108,11 +67,11 @@ pub fn lookup_status(fault: &LookupFault) -> u32
     match fault {
         LookupFault::NoReply(fault) => reply_status(fault),
         LookupFault::OfEntry(fault) => entry_status(fault),
-        LookupFault::Equivocation(_) => 82,
-        LookupFault::UnknownEpoch => UNKNOWN_EPOCH,
-        LookupFault::OtherEpoch => 84,
+        LookupFault::Equivocation(_) => numbers::EQUIVOCATION,
+        LookupFault::UnknownEpoch => numbers::UNKNOWN_EPOCH,
+        LookupFault::OtherEpoch => numbers::OTHER_EPOCH,
         LookupFault::OffTime(fault) => age_status(fault),
-        LookupFault::VrfProof => 87,
+        LookupFault::VrfProof => numbers::VRF_PROOF,
         LookupFault::Wire(fault) => wire_status(*fault),
         LookupFault::Check(fault) => check_status(*fault),
     }
@@ -123,16 +82,16 @@ pub fn history_status(fault: &HistoryFault) -> u32
     ensures { result ≡ history_status fault.now }
 {
     match fault {
-        HistoryFault::NoHistory => 69,
-        HistoryFault::HistoryVersion => 70,
-        HistoryFault::CutInVrf => 67,
-        HistoryFault::CutInStep => 71,
-        HistoryFault::EpochOrder => 72,
-        HistoryFault::UnknownEnd => 73,
-        HistoryFault::TooDeep => 2,
-        HistoryFault::SiblingMap => 74,
-        HistoryFault::SiblingRepeated => 75,
-        HistoryFault::EndRepeated => 76,
+        HistoryFault::NoHistory => numbers::NO_HISTORY,
+        HistoryFault::HistoryVersion => numbers::HISTORY_VERSION,
+        HistoryFault::CutInVrf => numbers::CUT_IN_VRF,
+        HistoryFault::CutInStep => numbers::CUT_IN_STEP,
+        HistoryFault::EpochOrder => numbers::EPOCH_ORDER,
+        HistoryFault::UnknownEnd => numbers::UNKNOWN_END,
+        HistoryFault::TooDeep => numbers::TOO_DEEP,
+        HistoryFault::SiblingMap => numbers::SIBLING_MAP,
+        HistoryFault::SiblingRepeated => numbers::SIBLING_REPEATED,
+        HistoryFault::EndRepeated => numbers::END_REPEATED,
     }
 }
 
@@ -142,9 +101,9 @@ pub fn accept_status(fault: &AcceptFault) -> u32
 {
     match fault {
         AcceptFault::NoHistory(fault) => history_status(fault),
-        AcceptFault::VrfProof => 87,
-        AcceptFault::NoRoom => NO_ROOM,
-        AcceptFault::UnknownEpoch => 83,
+        AcceptFault::VrfProof => numbers::VRF_PROOF,
+        AcceptFault::NoRoom => numbers::MISUSE_NO_ROOM,
+        AcceptFault::UnknownEpoch => numbers::UNKNOWN_EPOCH,
         AcceptFault::Check(fault) => check_status(*fault),
     }
 }
@@ -154,11 +113,11 @@ pub fn state_status(fault: &StateFault) -> u32
     ensures { result ≡ state_status fault.now }
 {
     match fault {
-        StateFault::StateLength => 96,
-        StateFault::StateVersion => 97,
-        StateFault::StateDamaged => 98,
-        StateFault::StatePolicy => 99,
-        StateFault::StateForm => 100,
+        StateFault::StateLength => numbers::STATE_LENGTH,
+        StateFault::StateVersion => numbers::STATE_VERSION,
+        StateFault::StateDamaged => numbers::STATE_DAMAGED,
+        StateFault::StatePolicy => numbers::STATE_POLICY,
+        StateFault::StateForm => numbers::STATE_FORM,
     }
 }
 
@@ -167,9 +126,9 @@ pub fn expect_status(fault: &ExpectFault) -> u32
     ensures { result ≡ expect_status fault.now }
 {
     match fault {
-        ExpectFault::ChangeOpen => 134,
-        ExpectFault::SameKey => 135,
-        ExpectFault::NotLater => 136,
+        ExpectFault::ChangeOpen => numbers::MISUSE_CHANGE_OPEN,
+        ExpectFault::SameKey => numbers::MISUSE_SAME_KEY,
+        ExpectFault::NotLater => numbers::MISUSE_NOT_LATER,
     }
 }
 
@@ -179,8 +138,8 @@ pub fn start_status(fault: &StartFault) -> u32
 {
     match fault {
         StartFault::OfEntry(fault) => entry_status(fault),
-        StartFault::AuditorsDiffer(_) => 105,
-        StartFault::NotVouched => 104,
+        StartFault::AuditorsDiffer(_) => numbers::AUDITORS_DIFFER,
+        StartFault::NotVouched => numbers::NOT_VOUCHED,
     }
 }
 
@@ -189,8 +148,8 @@ pub fn reliance_status(reliance: Reliance) -> u32
     ensures { result ≡ reliance_status reliance }
 {
     match reliance {
-        Reliance::ReliedOn => GOOD,
-        Reliance::Unconfirmed => NOT_CONFIRMED,
+        Reliance::ReliedOn => numbers::GOOD,
+        Reliance::Unconfirmed => numbers::MISUSE_NOT_CONFIRMED,
     }
 }
 
@@ -225,7 +184,7 @@ impl RawWhy {
             Conviction::With(evidence) => RawWhy::convicted(0, evidence),
             Conviction::Alone => RawWhy {
                 status: 0,
-                kind: 3,
+                kind: numbers::EVIDENCE_MALFORMED,
                 mine: usize::MAX,
             },
         }

@@ -13,9 +13,9 @@ ghost use Rattle.coniks_client.specs.declared.expecting.ExpectFault.{ExpectFault
 ghost use Rattle.coniks_c.specs.CoreStatuses.{expect_status};
 ghost use Rattle.coniks_c.specs.CoreTold.{IsKey, IsName, IsWatchedAlready, first_watched};
 
-use crate::core_status::{EXPECTED_KEY, NAME, NO_ROOM, NOT_WATCHING, OTHER_WATCH, expect_status};
+use crate::core_status::expect_status;
 use crate::core_values::RawWatch;
-use crate::status::GOOD;
+use crate::numbers;
 use coniks_client::{Change, Kept, Watch, begin_watch, expect, latest_epoch};
 use coniks_proof::MAX_NAME;
 
@@ -96,16 +96,16 @@ pub extern "C" fn coniks_core_watch<'a>(
     ensures watched { result ≡ 0 → watch.old.is_watched ≢ 1 → (scheme : Scheme) (name : Octets) (key : Option Octets) → IsWatched sha256 scheme name key [] kept.new }
 {
     if !is_name(new.name) {
-        return NAME;
+        return numbers::MISUSE_NAME;
     }
     if !is_key(new.key) {
-        return EXPECTED_KEY;
+        return numbers::MISUSE_EXPECTED_KEY;
     }
     if watch.is_watched == 1 {
         return if is_watched_already(watch, new, changes, is_since) {
-            GOOD
+            numbers::GOOD
         } else {
-            OTHER_WATCH
+            numbers::MISUSE_OTHER_WATCH
         };
     }
     let since = first_watched(kept, is_since, new.since);
@@ -123,7 +123,7 @@ pub extern "C" fn coniks_core_watch<'a>(
         since,
         key: new.key,
     };
-    GOOD
+    numbers::GOOD
 }
 
 /// Writes a change.
@@ -167,22 +167,22 @@ pub extern "C" fn coniks_core_expect<'a>(
         → IsWatched sha256 scheme name (wanted watch.now.key.now) (take count.new changes.new) kept.now }
 {
     if watch.is_watched != 1 {
-        return NOT_WATCHING;
+        return numbers::MISUSE_NOT_WATCHING;
     }
     if !is_key(key) {
-        return EXPECTED_KEY;
+        return numbers::MISUSE_EXPECTED_KEY;
     }
     if *count > changes.len() {
-        return NO_ROOM;
+        return numbers::MISUSE_NO_ROOM;
     }
     let change = match expect(watch.key, &changes[..*count], latest_epoch(kept), key, by) {
         Ok(change) => change,
         Err(fault) => return expect_status(&fault),
     };
     if *count == changes.len() {
-        return NO_ROOM;
+        return numbers::MISUSE_NO_ROOM;
     }
     put(changes, *count, &change);
     *count += 1;
-    GOOD
+    numbers::GOOD
 }

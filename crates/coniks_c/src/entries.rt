@@ -5,7 +5,7 @@ ghost use Rattle.coniks_proof.specs.Sha256.{sha256};
 ghost use Rattle.coniks_chain.specs.Entries.{body_bytes, entry_bytes, entry_from};
 ghost use Rattle.coniks_c.specs.Crossing.{body_in};
 
-use crate::status::{ENTRY_LENGTH, GOOD};
+use crate::numbers;
 use crate::values::{Bytes32, Bytes145, EntryBody};
 use coniks_chain::{ENTRY_BYTES, Entry};
 use coniks_proof::Sha256Hash;
@@ -39,10 +39,10 @@ pub extern "C" fn coniks_entry_body(entry: &[u8], body: &mut EntryBody) -> u32
     ensures refused { length entry.now ≢ ENTRY_BYTES → (result ≡ 48) × (body.new ≡ body.old) }
 {
     let Some(entry) = entry_of(entry) else {
-        return ENTRY_LENGTH;
+        return numbers::ENTRY_LENGTH;
     };
     *body = EntryBody::of(&entry.body);
-    GOOD
+    numbers::GOOD
 }
 
 /// Writes the link of an entry of ENTRY_BYTES bytes, by which the next entry names it: SHA-256 of the byte 53 (hexadecimal) and
@@ -53,9 +53,9 @@ pub extern "C" fn coniks_link(entry: &[u8], link: &mut Bytes32) -> u32
     ensures refused { length entry.now ≢ ENTRY_BYTES → (result ≡ 48) × (link.new ≡ link.old) }
 {
     let Some(entry) = entry_of(entry) else {
-        return ENTRY_LENGTH;
+        return numbers::ENTRY_LENGTH;
     };
     let bytes = coniks_chain::link(&Sha256Hash, &entry).0;
     *link = Bytes32 { bytes };
-    GOOD
+    numbers::GOOD
 }

@@ -7,7 +7,8 @@ ghost use Rattle.coniks_chain.specs.declared.evidence.EvidenceKind.{EvidenceKind
 ghost use Rattle.coniks_c.specs.Statuses.{number_of_kind};
 
 use crate::entries::entry_of;
-use crate::status::{ENTRY_LENGTH, GOOD, NO_EVIDENCE, kind_number};
+use crate::numbers;
+use crate::status::kind_number;
 use coniks_chain::{ENTRY_BYTES, convicts};
 
 /// Compares two entries of 209 bytes that were signed with one key, and returns whether they are evidence that its owner
@@ -26,16 +27,16 @@ pub extern "C" fn coniks_convicts(a: &[u8], b: &[u8], kind: &mut u32) -> u32
     ensures unwritten { result ≢ 0 → kind.new ≡ kind.old }
 {
     let Some(a) = entry_of(a) else {
-        return ENTRY_LENGTH;
+        return numbers::ENTRY_LENGTH;
     };
     let Some(b) = entry_of(b) else {
-        return ENTRY_LENGTH;
+        return numbers::ENTRY_LENGTH;
     };
     match convicts(&a, &b) {
         Some(found) => {
             *kind = kind_number(found);
-            GOOD
+            numbers::GOOD
         }
-        None => NO_EVIDENCE,
+        None => numbers::NO_EVIDENCE,
     }
 }

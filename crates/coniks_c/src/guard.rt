@@ -12,10 +12,9 @@ ghost use Rattle.coniks_chain.specs.declared.guard.SignFault.{SignFault as Unsig
 ghost use Rattle.coniks_chain.specs.declared.guard_record.Answer.{Answer as Said};
 ghost use Rattle.coniks_c.specs.Guarding.{IfSigned, abandon_status, adopt_status, answer_number, ask_status, record_in, sign_status};
 
-use crate::core_status::NO_ROOM;
 use crate::entries::entry_of;
 use crate::guard_status::{abandon_status, adopt_status, answer_number, ask_status, sign_status};
-use crate::status::{ENTRY_LENGTH, GOOD};
+use crate::numbers;
 use coniks_chain::Signature;
 use coniks_chain::guard::{Effect, abandon, adopt, ask, sign};
 use coniks_chain::guard_record::{Answer, RawBody, RawHeld, answer_of, keep_rivals};
@@ -109,7 +108,7 @@ pub extern "C" fn coniks_guard_ask(
     ) {
         Ok(next) => {
             *stored = RawHeld::of(&next.held);
-            GOOD
+            numbers::GOOD
         }
         Err(fault) => ask_status(fault),
     }
@@ -142,7 +141,7 @@ pub extern "C" fn coniks_guard_sign(
     ensures unchanged { result ≢ 0 → (stored.new ≡ stored.old) × (abandoned.new ≡ abandoned.old) × (count.new ≡ count.old) }
 {
     if *count > abandoned.len() {
-        return NO_ROOM;
+        return numbers::MISUSE_NO_ROOM;
     }
     let next = match sign(
         &stored.held(),
@@ -158,7 +157,7 @@ pub extern "C" fn coniks_guard_sign(
     if is_narrowed(next.effect) {
         *count = narrow(abandoned, *count, body);
     }
-    GOOD
+    numbers::GOOD
 }
 
 /// Abandons a body, which is written after the first `count` abandoned ones, and is not open any more. A body that is signed or abandoned
@@ -182,7 +181,7 @@ pub extern "C" fn coniks_guard_abandon(
     ensures unchanged { result ≢ 0 → (stored.new ≡ stored.old) × (abandoned.new ≡ abandoned.old) × (count.new ≡ count.old) }
 {
     if *count > abandoned.len() {
-        return NO_ROOM;
+        return numbers::MISUSE_NO_ROOM;
     }
     let next = match abandon(&stored.held(), &abandoned[..*count], &body.body()) {
         Ok(next) => next,
@@ -190,13 +189,13 @@ pub extern "C" fn coniks_guard_abandon(
     };
     if is_added(next.effect) {
         if *count == abandoned.len() {
-            return NO_ROOM;
+            return numbers::MISUSE_NO_ROOM;
         }
         append(abandoned, *count, body);
         *count += 1;
     }
     *stored = RawHeld::of(&next.held);
-    GOOD
+    numbers::GOOD
 }
 
 /// Adopts the last entry that a key has signed without a guard, which the caller has verified.
@@ -216,12 +215,12 @@ pub extern "C" fn coniks_guard_adopt(
     ensures unchanged { result ≢ 0 → stored.new ≡ stored.old }
 {
     let Some(entry) = entry_of(entry) else {
-        return ENTRY_LENGTH;
+        return numbers::ENTRY_LENGTH;
     };
     match adopt(&stored.held(), abandoned, &entry) {
         Ok(next) => {
             *stored = RawHeld::of(&next.held);
-            GOOD
+            numbers::GOOD
         }
         Err(fault) => adopt_status(fault),
     }

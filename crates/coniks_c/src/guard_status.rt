@@ -3,6 +3,7 @@
 ghost use Rattle.std.specs.Prelude.{◌≡◌};
 ghost use Rattle.coniks_c.specs.Guarding.{abandon_status, adopt_status, answer_number, ask_status, sign_status};
 
+use crate::numbers;
 use coniks_chain::guard::{AbandonFault, AdoptFault, AskFault, SignFault};
 use coniks_chain::guard_record::Answer;
 
@@ -11,17 +12,17 @@ pub fn ask_status(fault: AskFault) -> u32
     ensures { result ≡ ask_status fault }
 {
     match fault {
-        AskFault::Malformed => 112,
-        AskFault::NothingRecorded => 113,
-        AskFault::BeginsUnasked => 114,
-        AskFault::BeginsAgain => 115,
-        AskFault::OtherPolicy => 116,
-        AskFault::LogBehind => 117,
-        AskFault::RecordBehind => 118,
-        AskFault::OtherLink => 119,
-        AskFault::VersionBack => 120,
-        AskFault::NonceChanged => 121,
-        AskFault::OtherOpen => 122,
+        AskFault::Malformed => numbers::GUARD_MALFORMED,
+        AskFault::NothingRecorded => numbers::GUARD_NOTHING_RECORDED,
+        AskFault::BeginsUnasked => numbers::GUARD_BEGINS_UNASKED,
+        AskFault::BeginsAgain => numbers::GUARD_BEGINS_AGAIN,
+        AskFault::OtherPolicy => numbers::GUARD_OTHER_POLICY,
+        AskFault::LogBehind => numbers::GUARD_LOG_BEHIND,
+        AskFault::RecordBehind => numbers::GUARD_RECORD_BEHIND,
+        AskFault::OtherLink => numbers::GUARD_OTHER_LINK,
+        AskFault::VersionBack => numbers::GUARD_VERSION_BACK,
+        AskFault::NonceChanged => numbers::GUARD_NONCE_CHANGED,
+        AskFault::OtherOpen => numbers::GUARD_OTHER_OPEN,
     }
 }
 
@@ -30,8 +31,8 @@ pub fn sign_status(fault: SignFault) -> u32
     ensures { result ≡ sign_status fault }
 {
     match fault {
-        SignFault::NotAsked => 123,
-        SignFault::OtherOpen => 122,
+        SignFault::NotAsked => numbers::GUARD_NOT_ASKED,
+        SignFault::OtherOpen => numbers::GUARD_OTHER_OPEN,
     }
 }
 
@@ -40,8 +41,8 @@ pub fn abandon_status(fault: AbandonFault) -> u32
     ensures { result ≡ abandon_status fault }
 {
     match fault {
-        AbandonFault::MayBeSigned => 124,
-        AbandonFault::RecordOld => 125,
+        AbandonFault::MayBeSigned => numbers::GUARD_MAY_BE_SIGNED,
+        AbandonFault::RecordOld => numbers::GUARD_RECORD_OLD,
     }
 }
 
@@ -50,8 +51,8 @@ pub fn adopt_status(fault: AdoptFault) -> u32
     ensures { result ≡ adopt_status fault }
 {
     match fault {
-        AdoptFault::OtherBodies => 126,
-        AdoptFault::NoEntry => 127,
+        AdoptFault::OtherBodies => numbers::GUARD_OTHER_BODIES,
+        AdoptFault::NoEntry => numbers::GUARD_NO_ENTRY,
     }
 }
 

@@ -25,6 +25,7 @@ mod evidence;
 mod guard;
 mod guard_status;
 mod monitor;
+mod numbers;
 mod status;
 mod text;
 mod values;

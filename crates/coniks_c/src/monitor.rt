@@ -19,7 +19,8 @@ ghost use Rattle.coniks_c.specs.Watched.{IsRefusedStep, Sees, expectation};
 
 use crate::auditor::Told;
 use crate::entries::entry_of;
-use crate::status::{ENTRY_LENGTH, audit_status, check_status, seen_status, wire_status};
+use crate::numbers;
+use crate::status::{audit_status, check_status, seen_status, wire_status};
 use crate::values::{Bytes32, RawAuditorState};
 use coniks_chain::{Auditor, ENTRY_BYTES, MonitorFault, Wanted};
 use coniks_proof::{Index, ProofRef, Sha256Hash};
@@ -67,7 +68,7 @@ pub extern "C" fn coniks_monitor_step(
     ensures unchanged { (IsSeenStatus result → ⊥) → state.new ≡ state.old }
 {
     let Some(entry) = entry_of(entry) else {
-        return ENTRY_LENGTH;
+        return numbers::ENTRY_LENGTH;
     };
     let proof = match ProofRef::read(proof) {
         Ok(proof) => proof,

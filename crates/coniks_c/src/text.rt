@@ -5,6 +5,7 @@ ghost use Rattle.coniks_c.specs.Statuses.{refusal_status};
 ghost use Rattle.coniks_c.specs.Texts.{audit_text, check_text, refusal_text, wire_text, written};
 ghost use Rattle.coniks_c.specs.declared.text.Refusal.{Refusal as Fault};
 
+use crate::numbers;
 use coniks_chain::AuditFault;
 use coniks_proof::{CheckFault, WireFault};
 use std::cmp::min;
@@ -25,32 +26,32 @@ fn refusal_of(status: u32) -> Option<Refusal>
     ensures none { IfNone result ((fault : Fault) → refusal_status fault ≢ status) }
 {
     Some(match status {
-        2 => Refusal::Check(CheckFault::TooDeep),
-        3 => Refusal::Check(CheckFault::NameLength),
-        4 => Refusal::Check(CheckFault::KeyLength),
-        5 => Refusal::Check(CheckFault::WrongName),
-        6 => Refusal::Check(CheckFault::OtherIsSame),
-        7 => Refusal::Check(CheckFault::OtherOffPath),
-        8 => Refusal::Check(CheckFault::RootMismatch),
-        17 => Refusal::Wire(WireFault::NoBytes),
-        18 => Refusal::Wire(WireFault::UnknownKind),
-        19 => Refusal::Wire(WireFault::CutInCount),
-        20 => Refusal::Wire(WireFault::CutInSiblings),
-        21 => Refusal::Wire(WireFault::CutInOther),
-        22 => Refusal::Wire(WireFault::CutInOpening),
-        23 => Refusal::Wire(WireFault::CutInName),
-        24 => Refusal::Wire(WireFault::CutInKey),
-        25 => Refusal::Wire(WireFault::BytesFollow),
-        33 => Refusal::Audit(AuditFault::Version),
-        34 => Refusal::Audit(AuditFault::VersionBack),
-        35 => Refusal::Audit(AuditFault::FirstEpoch),
-        36 => Refusal::Audit(AuditFault::NotLater),
-        37 => Refusal::Audit(AuditFault::PreviousEpoch),
-        38 => Refusal::Audit(AuditFault::PreviousLink),
-        39 => Refusal::Audit(AuditFault::NonceChanged),
-        40 => Refusal::Audit(AuditFault::Verdict),
-        48 => Refusal::EntryLength,
-        49 => Refusal::NoEntry,
+        numbers::TOO_DEEP => Refusal::Check(CheckFault::TooDeep),
+        numbers::NAME_LENGTH => Refusal::Check(CheckFault::NameLength),
+        numbers::KEY_LENGTH => Refusal::Check(CheckFault::KeyLength),
+        numbers::WRONG_NAME => Refusal::Check(CheckFault::WrongName),
+        numbers::OTHER_IS_SAME => Refusal::Check(CheckFault::OtherIsSame),
+        numbers::OTHER_OFF_PATH => Refusal::Check(CheckFault::OtherOffPath),
+        numbers::ROOT_MISMATCH => Refusal::Check(CheckFault::RootMismatch),
+        numbers::NO_BYTES => Refusal::Wire(WireFault::NoBytes),
+        numbers::UNKNOWN_KIND => Refusal::Wire(WireFault::UnknownKind),
+        numbers::CUT_IN_COUNT => Refusal::Wire(WireFault::CutInCount),
+        numbers::CUT_IN_SIBLINGS => Refusal::Wire(WireFault::CutInSiblings),
+        numbers::CUT_IN_OTHER => Refusal::Wire(WireFault::CutInOther),
+        numbers::CUT_IN_OPENING => Refusal::Wire(WireFault::CutInOpening),
+        numbers::CUT_IN_NAME => Refusal::Wire(WireFault::CutInName),
+        numbers::CUT_IN_KEY => Refusal::Wire(WireFault::CutInKey),
+        numbers::BYTES_FOLLOW => Refusal::Wire(WireFault::BytesFollow),
+        numbers::VERSION_UNKNOWN => Refusal::Audit(AuditFault::Version),
+        numbers::VERSION_BACK => Refusal::Audit(AuditFault::VersionBack),
+        numbers::FIRST_EPOCH => Refusal::Audit(AuditFault::FirstEpoch),
+        numbers::NOT_LATER => Refusal::Audit(AuditFault::NotLater),
+        numbers::PREVIOUS_EPOCH => Refusal::Audit(AuditFault::PreviousEpoch),
+        numbers::PREVIOUS_LINK => Refusal::Audit(AuditFault::PreviousLink),
+        numbers::NONCE_CHANGED => Refusal::Audit(AuditFault::NonceChanged),
+        numbers::SIGNATURE => Refusal::Audit(AuditFault::Verdict),
+        numbers::ENTRY_LENGTH => Refusal::EntryLength,
+        numbers::NO_ENTRY => Refusal::NoEntry,
         _ => return None,
     })
 }
@@ -60,6 +61,7 @@ fn check_text(fault: CheckFault) -> &'static str
     ensures { result.now ≡ check_text fault }
 {
     match fault {
+        // formats.toml: proof
         CheckFault::TooDeep => "the proof has more than 256 siblings",
         CheckFault::NameLength => "the name is empty or longer than 255 bytes",
         CheckFault::KeyLength => "the proof's key is empty or longer than 16384 bytes",
@@ -68,6 +70,7 @@ fn check_text(fault: CheckFault) -> &'static str
         CheckFault::OtherOffPath =>
             "the proof's other index isn't on the path to the requested index",
         CheckFault::RootMismatch => "the root computed from the proof isn't the expected root",
+        // formats.toml: end
     }
 }
 
@@ -76,6 +79,7 @@ fn wire_text(fault: WireFault) -> &'static str
     ensures { result.now ≡ wire_text fault }
 {
     match fault {
+        // formats.toml: wire
         WireFault::NoBytes => "there are no bytes",
         WireFault::UnknownKind => "the first byte is no kind of proof",
         WireFault::CutInCount => "the bytes end within the number of siblings",
@@ -85,6 +89,7 @@ fn wire_text(fault: WireFault) -> &'static str
         WireFault::CutInName => "the bytes end within the name or its length",
         WireFault::CutInKey => "the bytes end within the key or its length",
         WireFault::BytesFollow => "bytes follow the proof",
+        // formats.toml: end
     }
 }
 
@@ -93,6 +98,7 @@ fn audit_text(fault: AuditFault) -> &'static str
     ensures { result.now ≡ audit_text fault }
 {
     match fault {
+        // formats.toml: chain
         AuditFault::Version => "the version is neither 1 nor 2",
         AuditFault::VersionBack => "the version is lower than that of the entry before",
         AuditFault::FirstEpoch => "the first epoch is 0",
@@ -101,6 +107,7 @@ fn audit_text(fault: AuditFault) -> &'static str
         AuditFault::PreviousLink => "the previous link isn't that of the entry before",
         AuditFault::NonceChanged => "the version is 1 and the nonce isn't that of the entry before",
         AuditFault::Verdict => "the signature isn't valid for this body",
+        // formats.toml: end
     }
 }
 
@@ -112,8 +119,10 @@ fn text_of(refusal: Refusal) -> &'static str
         Refusal::Check(fault) => check_text(fault),
         Refusal::Wire(fault) => wire_text(fault),
         Refusal::Audit(fault) => audit_text(fault),
+        // formats.toml: others
         Refusal::EntryLength => "the entry isn't 209 bytes long",
         Refusal::NoEntry => "no entry was accepted yet",
+        // formats.toml: end
     }
 }
 

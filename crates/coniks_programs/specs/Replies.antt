@@ -29,12 +29,15 @@ member_name named.Bindings = codes "bindings"
 
 -- the name of an operation's error
 abbrev pub fault_name : Fault → Octets
+-- formats.toml: faults
 fault_name name_length = codes "NameLength"
 fault_name key_length = codes "KeyLength"
 fault_name name_twice = codes "NameTwice"
 fault_name name_taken = codes "NameTaken"
 fault_name name_unknown = codes "NameUnknown"
 fault_name index_clash = codes "IndexClash"
+
+-- formats.toml: end
 
 -- {"fault":NAME}
 abbrev pub fault_data : Octets → Data

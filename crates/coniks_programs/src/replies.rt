@@ -17,12 +17,14 @@ pub fn fault_text(fault: OpFault) -> &'static str
     ensures { result.now ≡ fault_name (fault_is fault) }
 {
     match fault {
+        // formats.toml: faults
         OpFault::NameLength => "NameLength",
         OpFault::KeyLength => "KeyLength",
         OpFault::NameTwice => "NameTwice",
         OpFault::NameTaken => "NameTaken",
         OpFault::NameUnknown => "NameUnknown",
         OpFault::IndexClash => "IndexClash",
+        // formats.toml: end
     }
 }
 

@@ -94,7 +94,7 @@ func (m *memory) entryAt(place int) []byte {
 }
 
 func (m *memory) epochAt(place int) uint64 {
-	return binary.BigEndian.Uint64(m.bytesAt(place)[1:])
+	return binary.BigEndian.Uint64(m.bytesAt(place)[epochStart:])
 }
 
 func (m *memory) firstSeenAt(place int) uint64 {

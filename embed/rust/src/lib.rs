@@ -15,15 +15,14 @@ extern crate std;
 pub mod client;
 #[cfg(feature = "client")]
 mod client_core;
+mod formats;
 #[cfg(feature = "client")]
 mod sodium;
 
 use core::fmt;
 
-/// The bytes of an entry that are signed.
-pub const BODY_BYTES: usize = 145;
-/// The bytes of an entry: its body and its signature.
-pub const ENTRY_BYTES: usize = 209;
+pub use formats::{Error, BODY_BYTES, ENTRY_BYTES};
+
 /// The bytes of an auditor's state.
 pub const STATE_BYTES: usize = 80;
 
@@ -91,77 +90,6 @@ const GOOD: u32 = 0;
 const ABSENT: u32 = 1;
 const CHANGED: u32 = 9;
 const NO_EVIDENCE: u32 = 50;
-
-macro_rules! errors {
-    ($($(#[$doc:meta])* $name:ident = $number:literal,)*) => {
-        /// Why a proof or an entry is not accepted, by the numbers of `coniks.h`. Its display is the library's text.
-        #[derive(Clone, Copy, Debug, PartialEq, Eq, Hash)]
-        #[repr(u32)]
-        pub enum Error {
-            $($(#[$doc])* $name = $number,)*
-        }
-
-        impl Error {
-            /// All errors, in the order of their numbers.
-            pub const ALL: &'static [Error] = &[$(Error::$name,)*];
-        }
-    };
-}
-
-errors! {
-    /// The proof has more than 256 siblings.
-    TooDeep = 2,
-    /// The name is empty or longer than 255 bytes.
-    NameLength = 3,
-    /// The proof's key is empty or longer than 16,384 bytes.
-    KeyLength = 4,
-    /// The proof's leaf contains another name.
-    WrongName = 5,
-    /// The proof's other index is the requested index.
-    OtherIsSame = 6,
-    /// The proof's other index isn't on the path to the requested index.
-    OtherOffPath = 7,
-    /// The root computed from the proof isn't the expected root.
-    RootMismatch = 8,
-    /// The proof has no bytes.
-    NoBytes = 17,
-    /// The proof's first byte is none of 0, 1 and 2.
-    UnknownKind = 18,
-    /// The proof ends within the number of siblings.
-    CutInCount = 19,
-    /// The proof ends within the siblings.
-    CutInSiblings = 20,
-    /// The proof ends within the other index or its commitment.
-    CutInOther = 21,
-    /// The proof ends within the opening.
-    CutInOpening = 22,
-    /// The proof ends within the name or its length.
-    CutInName = 23,
-    /// The proof ends within the key or its length.
-    CutInKey = 24,
-    /// Bytes follow the proof.
-    BytesFollow = 25,
-    /// The entry's version is neither 1 nor 2.
-    VersionUnknown = 33,
-    /// The entry's version is lower than that of the entry before.
-    VersionBack = 34,
-    /// The first entry's epoch is 0.
-    FirstEpoch = 35,
-    /// The entry's epoch isn't later than that of the entry before.
-    NotLater = 36,
-    /// The entry's previous epoch isn't that of the entry before.
-    PreviousEpoch = 37,
-    /// The entry's previous link isn't that of the entry before.
-    PreviousLink = 38,
-    /// The version is 1 and the nonce isn't that of the entry before.
-    NonceChanged = 39,
-    /// The caller's verification result is not good.
-    Signature = 40,
-    /// The entry isn't 209 bytes long.
-    EntryLength = 48,
-    /// No entry was accepted yet.
-    NoEntry = 49,
-}
 
 impl Error {
     fn of(status: u32) -> Self {

@@ -34,6 +34,7 @@ from dataclasses import dataclass
 from pathlib import Path
 from typing import Any, Mapping, Optional, Sequence, Union
 
+from ._formats import BODY_LENGTH, ENTRY_LENGTH, EvidenceKind, Status
 from .policy import Policy
 
 __version__ = "1.0.0"
@@ -60,50 +61,7 @@ __all__ = [
 
 Name = Union[str, bytes]
 
-BODY_LENGTH = 145
-ENTRY_LENGTH = 209
-
 _NO_EVIDENCE = 50
-
-
-class Status(enum.IntEnum):
-    """Why a proof or an entry is refused, by the numbers of coniks.h."""
-
-    TOO_DEEP = 2
-    NAME_LENGTH = 3
-    KEY_LENGTH = 4
-    WRONG_NAME = 5
-    OTHER_IS_SAME = 6
-    OTHER_OFF_PATH = 7
-    ROOT_MISMATCH = 8
-    NO_BYTES = 17
-    UNKNOWN_KIND = 18
-    CUT_IN_COUNT = 19
-    CUT_IN_SIBLINGS = 20
-    CUT_IN_OTHER = 21
-    CUT_IN_OPENING = 22
-    CUT_IN_NAME = 23
-    CUT_IN_KEY = 24
-    BYTES_FOLLOW = 25
-    VERSION_UNKNOWN = 33
-    VERSION_BACK = 34
-    FIRST_EPOCH = 35
-    NOT_LATER = 36
-    PREVIOUS_EPOCH = 37
-    PREVIOUS_LINK = 38
-    NONCE_CHANGED = 39
-    SIGNATURE = 40
-    ENTRY_LENGTH = 48
-    NO_ENTRY = 49
-
-
-class EvidenceKind(enum.IntEnum):
-    """Why two entries, signed with one key, are evidence that its owner equivocated, by the numbers of coniks.h. Bodies overlap
-    if they differ and their intervals (previous epoch, epoch] do."""
-
-    OVERLAP = 1
-    OTHER_POLICY = 2
-    MALFORMED = 3
 
 
 class Seen(enum.Enum):

@@ -4,7 +4,6 @@ what a client accepts. Nothing is decided here."""
 from __future__ import annotations
 
 import ctypes
-import enum
 from ctypes import POINTER, c_char_p, c_size_t, c_uint8, c_uint32, c_uint64, c_void_p
 
 from . import ENTRY_LENGTH, _Bytes32, _Exports, _Library
@@ -12,25 +11,6 @@ from . import ENTRY_LENGTH, _Bytes32, _Exports, _Library
 # SIZE_MAX.
 NOWHERE: int = 2 ** (8 * ctypes.sizeof(c_size_t)) - 1
 NO_EVIDENCE = 50
-
-
-class Misuse(enum.IntEnum):
-    """The statuses of a call that the caller must not make."""
-
-    NAME = 130
-    EXPECTED_KEY = 131
-    OTHER_WATCH = 132
-    NOT_WATCHING = 133
-    CHANGE_OPEN = 134
-    SAME_KEY = 135
-    NOT_LATER = 136
-    NO_ROOM = 137
-    NO_AUDITOR = 138
-    NOT_CONFIRMED = 139
-    HAS_ENTRIES = 140
-    NO_QUORUM = 141
-    MANY_HEADS = 142
-    NO_STATE = 143
 
 
 class Kept(ctypes.Structure):

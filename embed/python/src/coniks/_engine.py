@@ -14,7 +14,9 @@ from typing import Any, Callable, Iterator, Mapping, NamedTuple, Optional, Seque
 from . import BODY_LENGTH, ENTRY_LENGTH, Head, _number
 from ._children import Children
 from ._files import Path, cause
-from ._lines import SIGNATURE_LENGTH, Epoch, Index, Latest, Pending, digits, encoded, install_line, lookup_line
+from ._formats import SIGNATURE_LENGTH
+from ._layout import body_of, epoch_before, epoch_of, link_before, policy_of, root_of
+from ._lines import Epoch, Index, Latest, Pending, digits, encoded, install_line, lookup_line
 from ._lines import has_digits, latest_of, members_of, number, sized, with_first
 from ._restoring import Restoring, link_of
 from ._snapshot_lines import OPENING, Point, lines_of, refused, snapshot_in
@@ -338,8 +340,8 @@ class Engine:
     def _pending(self, epoch: int, told: Mapping[str, Any]) -> Pending:
         """The update that the child has prepared. Its body is one of this epoch, after the latest one."""
         body, root = digits(told, "body", BODY_LENGTH), digits(told, "root", 32)
-        numbers = epoch.to_bytes(8, "big") + self.latest.epoch.to_bytes(8, "big")
-        if body[1:81] != numbers + root + self.latest.link or body[113:] != self._settings.digest:
+        parts = epoch_of(body), epoch_before(body), root_of(body), link_before(body), policy_of(body)
+        if parts != (epoch, self.latest.epoch, root, self.latest.link, self._settings.digest):
             self.children.distrust()
             raise ProgramFailed(
                 f"the body of epoch {epoch} doesn't follow the entry of epoch {self.latest.epoch}: look which program it is"
@@ -454,7 +456,7 @@ class Engine:
             return False
         if other.update is None:
             return True
-        asked = [*self.replaced, *(it[:BODY_LENGTH] for it in self.chain[count:])]
+        asked = [*self.replaced, *map(body_of, self.chain[count:])]
         asked += [self.update.pending.body] if self.update else []
         return other.update.pending.body in asked
 
@@ -476,9 +478,9 @@ class Engine:
         record was read first."""
         pending = self.update.pending.body if self.update else b""
         signed, asked = record
-        if signed and signed != self._entry_at(epoch_of(signed)) and signed[:BODY_LENGTH] != pending:
+        if signed and signed != self._entry_at(epoch_of(signed)) and body_of(signed) != pending:
             raise self._not_recorded(signed)
-        if asked and asked not in (*self.replaced, pending, self._entry_at(epoch_of(asked))[:BODY_LENGTH]):
+        if asked and asked not in (*self.replaced, pending, body_of(self._entry_at(epoch_of(asked)))):
             raise LogBehind(
                 f"the signer was asked for a body of epoch {epoch_of(asked)} that the log lacks: restore its last lines, "
                 "or abandon that body by the signer's guard if they are lost"
@@ -534,19 +536,14 @@ def _compare_indices(index: Index, places: Sequence[Place], advice: str) -> None
             raise OtherIndex(advice=advice)
 
 
-def epoch_of(body: bytes) -> int:
-    """The epoch of a body or an entry."""
-    return int.from_bytes(body[1:9], "big")
-
-
 def is_overlap(one: bytes, other: bytes) -> bool:
     """Whether two entries have different bodies, each of which covers an epoch number that the other covers: from its epoch down
     to above the epoch before."""
-    before = (int.from_bytes(it[9:17], "big") for it in (one, other))
-    return one[:BODY_LENGTH] != other[:BODY_LENGTH] and max(before) < min(epoch_of(one), epoch_of(other))
+    before = max(epoch_before(one), epoch_before(other))
+    return body_of(one) != body_of(other) and before < min(epoch_of(one), epoch_of(other))
 
 
 def two_bodies(known: Sequence[bytes], found: Sequence[bytes]) -> Optional[tuple[bytes, bytes]]:
     """The first entries with different bodies in one place of two chains, None if one of the chains just ends. All before have
     equal bodies, so these two follow one epoch, and overlap."""
-    return next((it for it in zip(known, found) if it[0][:BODY_LENGTH] != it[1][:BODY_LENGTH]), None)
+    return next((it for it in zip(known, found) if body_of(it[0]) != body_of(it[1])), None)

@@ -11,31 +11,12 @@ from dataclasses import dataclass
 from typing import Any, Callable, Optional
 
 from . import BODY_LENGTH, ENTRY_LENGTH, _Bytes145, _Exports, _Library
-from ._lines import SIGNATURE_LENGTH
+from ._formats import SIGNATURE_LENGTH
+from ._formats import GuardRefusal as Refusal
+from ._layout import epoch_before, epoch_of
 
-_RECORD = re.compile("coniks-guard 1\n(?:signed ([0-9a-f]{418})\n)?(?:asked ([0-9a-f]{290})\n)?((?:abandoned [0-9a-f]{290}\n)*)")
-
-
-class Refusal(enum.IntEnum):
-    """Why a step is refused, by the numbers of coniks_guard.h."""
-
-    MALFORMED = 112
-    NOTHING_RECORDED = 113
-    BEGINS_UNASKED = 114
-    BEGINS_AGAIN = 115
-    OTHER_POLICY = 116
-    LOG_BEHIND = 117
-    RECORD_BEHIND = 118
-    OTHER_LINK = 119
-    VERSION_BACK = 120
-    NONCE_CHANGED = 121
-    OTHER_OPEN = 122
-    NOT_ASKED = 123
-    MAY_BE_SIGNED = 124
-    RECORD_OLD = 125
-    OTHER_BODIES = 126
-    NO_ENTRY = 127
-    NO_ROOM = 137
+_ENTRY, _BODY = f"[0-9a-f]{{{2 * ENTRY_LENGTH}}}", f"[0-9a-f]{{{2 * BODY_LENGTH}}}"
+_RECORD = re.compile(f"coniks-guard 1\n(?:signed ({_ENTRY})\n)?(?:asked ({_BODY})\n)?((?:abandoned {_BODY}\n)*)")
 
 
 class StepRefused(Exception):
@@ -84,7 +65,7 @@ def load() -> None:
 
 def epochs(body: bytes) -> tuple[int, int]:
     """The epoch before a body, and that of the body. Both are 0 if there is none."""
-    return int.from_bytes(body[9:17], "big"), int.from_bytes(body[1:9], "big")
+    return epoch_before(body), epoch_of(body)
 
 
 def _body_of(body: bytes) -> _Bytes145:

@@ -11,9 +11,9 @@ from dataclasses import dataclass, replace
 from queue import Empty, SimpleQueue
 from typing import Any, Callable, Iterable, Iterator, Optional, Sequence
 
-from . import BODY_LENGTH
 from ._children import DIFFER
 from ._engine import Engine, Record, Settings, two_bodies
+from ._layout import body_of
 from ._snapshot_lines import entries_in, snapshot_in
 from ._threads import Worker
 from .faults import ChildrenDiffer, Closed, LinesDropped, LogForked, NoDirectory, ProgramFailed, ProviderError, ReplayDiffers
@@ -318,7 +318,7 @@ class Host:
 
         def after(chain: Sequence[bytes], engine: Optional[Engine]) -> Optional[bytes]:
             if both < len(chain):
-                return chain[both][:BODY_LENGTH]
+                return body_of(chain[both])
             return engine.update.pending.body if engine and engine.update else None
 
         pair = two_bodies(known, found)

@@ -12,7 +12,8 @@ from ipaddress import ip_address
 from typing import Iterator, Mapping, Optional
 from urllib.parse import urlsplit
 
-from . import BODY_LENGTH, ENTRY_LENGTH, Body, Head, link
+from . import ENTRY_LENGTH, Body, Head, link
+from ._layout import body_of, epoch_before, epoch_of
 from ._telling import Unusable, Verdict
 from .client import Client, Refusal, entries_of
 from .notes import SKEW
@@ -83,7 +84,7 @@ def fetched(url: str, most: int = PAGE) -> bytes:
 def check_time(client: Client, policy: Policy, entry: bytes, source: str) -> None:
     """Raises `Unusable` for an entry of an epoch that begins later than now, unless it convicts the directory. Else one entry of a far
     epoch would end the chain of whoever takes it."""
-    epoch, start, period = int.from_bytes(entry[1:9], "big"), policy.epoch_start, policy.epoch_period
+    epoch, start, period = epoch_of(entry), policy.epoch_start, policy.epoch_period
     if (
         start is not None
         and period is not None
@@ -95,7 +96,7 @@ def check_time(client: Client, policy: Policy, entry: bytes, source: str) -> Non
 
 def is_signed_again(entry: bytes, latest: bytes) -> bool:
     """Whether an entry has the body of a client's latest one, and other bytes."""
-    return entry[:BODY_LENGTH] == latest[:BODY_LENGTH] and entry != latest
+    return body_of(entry) == body_of(latest) and entry != latest
 
 
 def new_entries(client: Client, source: str, is_whole: bool = False, again: bool = False) -> Iterator[bytes]:
@@ -106,17 +107,17 @@ def new_entries(client: Client, source: str, is_whole: bool = False, again: bool
     """
     entries = client.entries
     latest = (entries or [bytes(ENTRY_LENGTH)])[-1]
-    known = {it if again else it[:BODY_LENGTH] for it in entries}
-    start = after = 0 if is_whole else int.from_bytes(latest[9:17], "big")
+    known = {it if again else body_of(it) for it in entries}
+    start = after = 0 if is_whole else epoch_before(latest)
     pages, until = 0, time.monotonic() + LONGEST
     while page := entries_of(fetched(f"{source}/v1/entries?after={after}")):
         if pages and (pages >= PAGES or time.monotonic() > until):
             raise Unusable(Verdict.MORE_ENTRIES, source=source)
         pages += 1
-        epochs = [after, *(int.from_bytes(it[1:9], "big") for it in page)]
+        epochs = [after, *map(epoch_of, page)]
         if epochs != sorted(set(epochs)):
             raise Unusable(Verdict.NOT_RISING, source=source)
-        yield from (it for it in page if (it if again else it[:BODY_LENGTH]) not in known)
+        yield from (it for it in page if (it if again else body_of(it)) not in known)
         after = epochs[-1]
     if known and after == start:
         raise Unusable(Verdict.OLDER, source=source)

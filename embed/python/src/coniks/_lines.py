@@ -9,10 +9,10 @@ from dataclasses import dataclass, field
 from typing import Any, Callable, Iterable, Iterator, Mapping, Optional, Union
 
 from . import BODY_LENGTH, ENTRY_LENGTH, _bytes, faults
+from ._formats import SIGNATURE_LENGTH
 from ._threads import Turn
 from .faults import LogFailed, NotText, ProgramFailed, ProviderError
 
-SIGNATURE_LENGTH = 64
 # A name has at most 255 bytes.
 _TOO_LONG = "a" * 256
 

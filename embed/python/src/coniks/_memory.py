@@ -7,6 +7,7 @@ import ctypes
 from typing import Any, Iterator
 
 from . import _core
+from ._formats import EPOCH
 
 _KEPT = ctypes.sizeof(_core.Kept)
 
@@ -85,7 +86,7 @@ class Memory:
         return bytes(self.kept[place].entry)
 
     def epoch(self, place: int) -> int:
-        return int.from_bytes(self.kept[place].entry[1:9], "big")
+        return int.from_bytes(self.kept[place].entry[EPOCH], "big")
 
     def column(self, start: int, end: int) -> list[bytes]:
         """Some bytes of each kept epoch."""

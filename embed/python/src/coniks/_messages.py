@@ -3,12 +3,11 @@ docs/FORMATS.md defines them. Also what a client refuses, by cause."""
 
 from __future__ import annotations
 
-import enum
 from dataclasses import dataclass
 from typing import Any, Iterable, Iterator, Optional, Sequence, Tuple
 
 from . import ENTRY_LENGTH, EvidenceKind, Status, _bytes, text
-from ._core import Misuse
+from ._formats import TEXTS, Cause, Misuse
 
 VERSION = b"\x01"
 NOT_SENT = 3
@@ -18,105 +17,6 @@ DEEPEST = 256
 End = Tuple[int, bytes]
 
 
-class Cause(enum.IntEnum):
-    """Why a client refuses something. The causes up to 48 have the names and the numbers of `coniks.Status`."""
-
-    TOO_DEEP = 2
-    NAME_LENGTH = 3
-    KEY_LENGTH = 4
-    WRONG_NAME = 5
-    OTHER_IS_SAME = 6
-    OTHER_OFF_PATH = 7
-    ROOT_MISMATCH = 8
-    NO_BYTES = 17
-    UNKNOWN_KIND = 18
-    CUT_IN_COUNT = 19
-    CUT_IN_SIBLINGS = 20
-    CUT_IN_OTHER = 21
-    CUT_IN_OPENING = 22
-    CUT_IN_NAME = 23
-    CUT_IN_KEY = 24
-    BYTES_FOLLOW = 25
-    VERSION_UNKNOWN = 33
-    VERSION_BACK = 34
-    FIRST_EPOCH = 35
-    NOT_LATER = 36
-    PREVIOUS_EPOCH = 37
-    PREVIOUS_LINK = 38
-    NONCE_CHANGED = 39
-    SIGNATURE = 40
-    ENTRY_LENGTH = 48
-    NO_REPLY = 64
-    REPLY_VERSION = 65
-    CUT_IN_ENTRY = 66
-    CUT_IN_VRF = 67
-    CATCH_UP_LENGTH = 68
-    NO_HISTORY = 69
-    HISTORY_VERSION = 70
-    CUT_IN_STEP = 71
-    EPOCH_ORDER = 72
-    UNKNOWN_END = 73
-    SIBLING_MAP = 74
-    SIBLING_REPEATED = 75
-    END_REPEATED = 76
-    OTHER_POLICY = 80
-    MALFORMED = 81
-    EQUIVOCATION = 82
-    UNKNOWN_EPOCH = 83
-    OTHER_EPOCH = 84
-    STALE = 85
-    FUTURE = 86
-    VRF_PROOF = 87
-    STATE_LENGTH = 96
-    STATE_VERSION = 97
-    STATE_DAMAGED = 98
-    STATE_POLICY = 99
-    STATE_FORM = 100
-    STATE_CHAIN = 101
-    NOT_VOUCHED = 104
-    AUDITORS_DIFFER = 105
-    SIGNING_KEY = 112
-    VRF_KEY = 113
-    POLICY_KEYS = 114
-
-
-_LINE = "ask for the reply again"
-_STATE = "restore the state that was stored last, or start anew with an auditor's head"
-_EVIDENCE = "keep the evidence, and publish it"
-TEXTS = {
-    Cause.NO_REPLY: f"the reply has no byte: {_LINE}",
-    Cause.REPLY_VERSION: "the reply has another version than 1: take a later version of this package",
-    Cause.CUT_IN_ENTRY: f"the reply ends before its entry does: {_LINE}",
-    Cause.CUT_IN_VRF: f"the bytes end before the VRF proof does: {_LINE}",
-    Cause.CATCH_UP_LENGTH: "a catch-up has 209 bytes for each entry: ask for it again",
-    Cause.NO_HISTORY: "the history has no byte: ask for it again",
-    Cause.HISTORY_VERSION: "the history has another version than 1: take a later version of this package",
-    Cause.CUT_IN_STEP: "the history ends within a step: ask for it again",
-    Cause.EPOCH_ORDER: "the epochs of a history must rise: ask another service",
-    Cause.UNKNOWN_END: "a step's kind of end is unknown: ask another service",
-    Cause.SIBLING_MAP: "a step's map has a spare bit, or lacks a sibling: ask another service",
-    Cause.SIBLING_REPEATED: "a step sends a sibling that stays: ask another service",
-    Cause.END_REPEATED: "a step sends an end that stays: ask another service",
-    Cause.OTHER_POLICY: f"the signed entry has another policy digest than the directory's: {_EVIDENCE}",
-    Cause.MALFORMED: f"no chain has the signed entry: {_EVIDENCE}",
-    Cause.EQUIVOCATION: f"the signed entry and one of the chain convict the provider: {_EVIDENCE}",
-    Cause.UNKNOWN_EPOCH: "the chain has no entry at this epoch: feed a catch-up first",
-    Cause.OTHER_EPOCH: "the reply is of another epoch than the one that was asked for: feed a catch-up, and ask again",
-    Cause.STALE: "the latest epoch is too old by the policy's clock: feed a catch-up, or alarm",
-    Cause.FUTURE: "the latest epoch has not begun by the policy's clock: see whether the clock is right, or alarm",
-    Cause.VRF_PROOF: f"the VRF proof is not one of this name: {_LINE}",
-    Cause.STATE_LENGTH: f"a state has at least 110 bytes: {_STATE}",
-    Cause.STATE_VERSION: "the state has another version than 3: take the package that wrote it, or start anew with an auditor's head",
-    Cause.STATE_DAMAGED: f"the state was changed: {_STATE}",
-    Cause.STATE_POLICY: "the state is that of another directory: take the one of this policy",
-    Cause.STATE_FORM: f"the state is not one of docs/FORMATS.md: {_STATE}",
-    Cause.STATE_CHAIN: f"the entries in the state are no chain of this directory: {_STATE}",
-    Cause.NOT_VOUCHED: "too few auditors have this entry: ask more of them, or take an earlier entry",
-    Cause.AUDITORS_DIFFER: "an auditor has another link for this epoch: fetch its entry, and compare",
-    Cause.SIGNING_KEY: "the signing key is no point of prime order: take the one of the policy document",
-    Cause.VRF_KEY: "the VRF's key is no point of prime order: take the one of the policy document",
-    Cause.POLICY_KEYS: "the keys are not those of the policy: take both from its document",
-}
 # What the caller of a client must not do.
 MISUSES = {
     Misuse.NAME: "a name has 1 to 255 bytes, not {length}",

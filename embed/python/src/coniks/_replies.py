@@ -6,6 +6,7 @@ from bisect import bisect_left, bisect_right
 from typing import TYPE_CHECKING, Iterator, Sequence
 
 from . import _bytes, _number, proof_bytes
+from ._layout import epoch_of
 from ._lines import Lookup, grouped, lookup_line
 from ._messages import Reply, history_bytes
 from .faults import Fault
@@ -46,7 +47,7 @@ def proofs(directory: Directory, name: str, epochs: Sequence[int]) -> Iterator[t
 
 def numbers(chain: Sequence[bytes]) -> list[int]:
     """The epochs of entries."""
-    return [int.from_bytes(it[1:9], "big") for it in chain]
+    return [*map(epoch_of, chain)]
 
 
 def proof_of_vrf(vrf_proof: bytes) -> bytes:

@@ -6,6 +6,7 @@ from hashlib import sha256
 from typing import TYPE_CHECKING, Any, Iterable, Mapping, Optional
 
 from . import BODY_LENGTH, ENTRY_LENGTH
+from ._layout import body_of, epoch_before, epoch_of, link_before, nonce_of, policy_of, signature_of, version_of
 from ._lines import Epoch, digits, encoded, has_digits, latest_of, members_of, number
 from ._snapshot_lines import FORMAT, GROUP, OPENING, Point, refused
 from .faults import Command, Fault, LogFailed, ProgramFailed, ProviderError, SnapshotDiffers
@@ -93,7 +94,7 @@ class Restoring:
     def _add_entries(self, said: Mapping[str, Any]) -> None:
         for entry in self._listed(said, "entries", ENTRY_LENGTH):
             before = self._chain[-1] if self._chain else None
-            if not is_next(entry, before) or entry[113:BODY_LENGTH] != self._policy:
+            if not is_next(entry, before) or policy_of(entry) != self._policy:
                 raise self._refused(f"has an entry that doesn't follow the one before it, number {len(self._chain)}")
             self._chain.append(entry)
 
@@ -140,7 +141,7 @@ class Restoring:
         if verify is None:
             return
         try:
-            is_valid = verify(entry[:BODY_LENGTH], entry[BODY_LENGTH:])
+            is_valid = verify(body_of(entry), signature_of(entry))
         except Exception as error:
             raise LogFailed(f"verify failed for the entry of the snapshot: {error}. Repair it, and start again") from error
         if is_valid is not True:
@@ -162,8 +163,9 @@ class Restoring:
 
 def is_next(entry: bytes, before: Optional[bytes]) -> bool:
     """Whether an entry continues a chain by its version, epochs, link and nonce. `before` is None for the first one."""
-    numbers, link = before[1:9] if before else bytes(8), link_of(before) if before else bytes(32)
-    is_later = entry[1:9] > entry[9:17] and entry[9:17] == numbers and entry[49:81] == link
+    epoch, link = (epoch_of(before), link_of(before)) if before else (0, bytes(32))
+    is_later = epoch_of(entry) > epoch_before(entry) == epoch and link_before(entry) == link
+    version = version_of(entry)
     if before is None:
-        return is_later and entry[0] in (1, 2)
-    return is_later and before[0] <= entry[0] <= 2 and (entry[0] == 2 or entry[81:113] == before[81:113])
+        return is_later and version in (1, 2)
+    return is_later and version_of(before) <= version <= 2 and (version == 2 or nonce_of(entry) == nonce_of(before))

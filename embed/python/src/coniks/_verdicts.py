@@ -10,8 +10,10 @@ import ctypes
 from types import ModuleType
 from typing import Any, Protocol, Sequence, Union
 
-from . import BODY_LENGTH, ENTRY_LENGTH, _Bytes32, _core
-from ._messages import Cause, Refusal
+from . import ENTRY_LENGTH, _Bytes32, _core
+from ._formats import Cause
+from ._layout import body_of, signature_of
+from ._messages import Refusal
 
 
 class SignatureScheme(Protocol):
@@ -43,7 +45,7 @@ class Verifier:
     def of_entry(self, entry: bytes) -> bool:
         """Returns whether an entry has its length, and a valid signature."""
         has_parts = len(entry) == ENTRY_LENGTH
-        return has_parts and self._signatures.verify(entry[:BODY_LENGTH], entry[BODY_LENGTH:]) is True
+        return has_parts and self._signatures.verify(body_of(entry), signature_of(entry)) is True
 
     def of_state(self, state: bytes, needs: _core.StateNeeds) -> Any:
         """Verifies the signature of each entry of a state."""

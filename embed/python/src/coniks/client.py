@@ -48,8 +48,9 @@ from typing import Any, Callable, Iterable, Iterator, Mapping, NoReturn, Optiona
 
 from . import ENTRY_LENGTH, EvidenceKind, Head, Name, Policy, Status, _bytes, _bytes32, _core, _name, _number, convicts, link
 from ._core import library
+from ._formats import Cause, Misuse
 from ._memory import Memory
-from ._messages import MISUSES, Cause, Evidence, Refusal
+from ._messages import MISUSES, Evidence, Refusal
 from ._verdicts import IndexScheme, SignatureScheme, Verifier, part
 
 __all__ = [
@@ -310,13 +311,13 @@ class Client:
         """The latest epoch that a quorum of the auditors confirms, None if there is none."""
         epoch = ctypes.c_uint64()
         status = library.coniks_core_confirmed(*self._memory.marks, self._quorum, epoch)
-        return None if status == _core.Misuse.NOT_CONFIRMED else epoch.value
+        return None if status == Misuse.NOT_CONFIRMED else epoch.value
 
     def is_relied(self, found: Found) -> bool:
         """Returns whether a quorum of the auditors confirms the epoch of what was found. Raises `Refusal` if it is not kept any more."""
         memory = self._memory
         status = library.coniks_core_relied(*memory.kept.present, memory.place(found.epoch), *memory.marks, self._quorum)
-        if status != _core.Misuse.NOT_CONFIRMED:
+        if status != Misuse.NOT_CONFIRMED:
             check(status)
         return bool(status == 0)
 
@@ -472,8 +473,8 @@ class Client:
 
 def check(status: int, of_entry: Optional[Status] = None, evidence: Optional[Evidence] = None, **values: int) -> None:
     """Raises what a status of the core says, if it is an error. `values` are for the texts of misuses."""
-    if status >= min(_core.Misuse):
-        raise ValueError(MISUSES[_core.Misuse(status)].format(**values))
+    if status >= min(Misuse):
+        raise ValueError(MISUSES[Misuse(status)].format(**values))
     if status:
         raise Refusal(Cause(status), of_entry, evidence)
 

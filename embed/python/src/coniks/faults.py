@@ -81,6 +81,9 @@ class Fault(ProviderError):
         return type(self), (self.position, self.latest, self.member, self.advice)
 
 
+# formats.toml: faults
+
+
 class Json(Fault):
     said = "the line is no JSON object"
 
@@ -105,34 +108,6 @@ class BatchTooLong(Fault):
     said = "a batch has at most 4,096 operations"
 
 
-class NameLength(Fault):
-    said = "a name has 1 to 255 bytes"
-
-
-class KeyLength(Fault):
-    said = "a key has 1 to 16,384 bytes"
-
-
-class NameTwice(Fault):
-    said = "an earlier operation has this name"
-
-
-class NameTaken(Fault):
-    said = "the name to register is registered already"
-
-
-class NameUnknown(Fault):
-    said = "the name to change isn't registered"
-
-
-class OtherIndex(Fault):
-    said = "the name is registered with another index"
-
-
-class IndexClash(Fault):
-    said = "another name has this index"
-
-
 class EpochNotLater(Fault):
     said = "the epoch isn't later than the latest one"
 
@@ -151,6 +126,10 @@ class OtherUpdate(Fault):
 
 class UnknownEpoch(Fault):
     said = "there is no such epoch, or it is before the snapshot"
+
+
+class OtherIndex(Fault):
+    said = "the name is registered with another index"
 
 
 class NotRestoring(Fault):
@@ -173,13 +152,33 @@ class RootDiffers(Fault):
     said = "the root of the bindings isn't that of the entry"
 
 
-BY_NAME: dict[str, type[Fault]] = {
-    it.__name__: it
-    for it in [
-        Json, Command, Member, NotOpen, AlreadyOpen, BatchTooLong, NameLength, KeyLength, NameTwice, NameTaken, NameUnknown,
-        OtherIndex, IndexClash, EpochNotLater, NotAbandoned, NotPrepared, UnknownEpoch, NotRestoring, NotLater, Version, Malformed, RootDiffers,
-    ]
-}  # fmt: skip
+class NameLength(Fault):
+    said = "a name has 1 to 255 bytes"
+
+
+class KeyLength(Fault):
+    said = "a key has 1 to 16,384 bytes"
+
+
+class NameTwice(Fault):
+    said = "an earlier operation has this name"
+
+
+class NameTaken(Fault):
+    said = "the name to register is registered already"
+
+
+class NameUnknown(Fault):
+    said = "the name to change isn't registered"
+
+
+class IndexClash(Fault):
+    said = "another name has this index"
+
+
+# formats.toml: end
+
+BY_NAME: dict[str, type[Fault]] = {it.__name__: it for it in Fault.__subclasses__()}
 # The error of a replay has this name.
 BY_NAME["ReplayDiffers"] = OtherUpdate
 

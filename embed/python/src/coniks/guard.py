@@ -34,8 +34,11 @@ from typing import Callable, Optional
 
 from . import BODY_LENGTH, ENTRY_LENGTH
 from ._files import Path, identity_at, identity_of, rewrite, sync_folder
-from ._guarding import Record, Refusal, Said, StepRefused, epochs, load
-from ._lines import SIGNATURE_LENGTH, sized
+from ._formats import SIGNATURE_LENGTH
+from ._formats import GuardRefusal as Refusal
+from ._guarding import Record, Said, StepRefused, epochs, load
+from ._layout import body_of, signature_of
+from ._lines import sized
 
 __all__ = ["BodyAbandoned", "BodyRefused", "BodySigned", "Guard", "GuardError", "RecordFailed"]
 
@@ -126,7 +129,7 @@ class Guard:
             raise BodyRefused(f"{self} has signed epochs: open it without new_directory, or make a new directory under a new key")
         if known is not None:
             entry = sized(known, ENTRY_LENGTH, "the known entry")
-            self._check_signature(entry[:BODY_LENGTH], entry[BODY_LENGTH:])
+            self._check_signature(body_of(entry), signature_of(entry))
             self._change(lambda it: self._adopting(it, entry))
 
     def __str__(self) -> str:

@@ -56,10 +56,12 @@ from typing import Callable, Iterable, Iterator, Optional, TypeVar
 
 from . import ENTRY_LENGTH, BODY_LENGTH, Head, _number, faults
 from ._directory import Directory, check_writable
-from ._engine import Engine, Record, Settings, epoch_of
+from ._engine import Engine, Record, Settings
 from ._files import cause
 from ._host import Evidence, Host
-from ._lines import SIGNATURE_LENGTH, Change, Epoch, Latest, Lookup, Operation, Pending, Register, prepare_line, sized
+from ._formats import SIGNATURE_LENGTH
+from ._layout import epoch_of
+from ._lines import Change, Epoch, Latest, Lookup, Operation, Pending, Register, prepare_line, sized
 from ._restoring import Restoring
 from ._snapshot_lines import Point, entries_in
 from .faults import *

@@ -38,6 +38,7 @@
 #![forbid(unsafe_code)]
 
 mod cause;
+mod causes;
 mod ecvrf;
 mod memory;
 mod policy;
@@ -45,7 +46,8 @@ mod schemes;
 mod verdicts;
 mod watched;
 
-pub use cause::{Cause, Evidence, Misuse, Refusal};
+pub use cause::{Evidence, Misuse, Refusal};
+pub use causes::Cause;
 pub use policy::{Policy, PolicyError, PolicyOrDigest};
 pub use schemes::{Ecvrf, Ed25519, IndexScheme, Keys, SignatureScheme, SigningKey, VrfKey};
 pub use watched::{Alarm, Report, Trust, Watched};

@@ -1,6 +1,7 @@
 //! What verifies signatures and VRF proofs: a public key over libsodium, or a scheme of the caller.
 
-use super::cause::{Cause, Refusal};
+use super::cause::Refusal;
+use super::causes::Cause;
 use super::ecvrf;
 use super::policy::Policy;
 use crate::{sodium, BODY_BYTES};

@@ -1,3 +1,4 @@
+// Generated from formats.toml by scripts/tables.
 package org.coniks;
 
 import java.util.Arrays;
@@ -8,109 +9,109 @@ public enum Cause {
     TOO_DEEP(2),
     /** The name is empty or longer than 255 bytes. */
     NAME_LENGTH(3),
-    /** The proof's key is empty or longer than 16,384 bytes. */
+    /** The proof's key is empty or longer than 16384 bytes. */
     KEY_LENGTH(4),
     /** The proof's leaf contains another name. */
     WRONG_NAME(5),
     /** The proof's other index is the requested index. */
     OTHER_IS_SAME(6),
-    /** The proof's other index is not on the path to the requested index. */
+    /** The proof's other index isn't on the path to the requested index. */
     OTHER_OFF_PATH(7),
-    /** The root computed from the proof is not that of the entry. */
+    /** The root computed from the proof isn't the expected root. */
     ROOT_MISMATCH(8),
-    /** The proof has no byte. */
+    /** There are no bytes. */
     NO_BYTES(17),
-    /** The first byte of the proof is no kind of proof. */
+    /** The first byte is not 0, 1 or 2. */
     UNKNOWN_KIND(18),
-    /** The proof ends within the number of siblings. */
+    /** The bytes end within the number of siblings. */
     CUT_IN_COUNT(19),
-    /** The proof ends within the siblings. */
+    /** The bytes end within the siblings. */
     CUT_IN_SIBLINGS(20),
-    /** The proof ends within the other index or its commitment. */
+    /** The bytes end within the other index or its commitment. */
     CUT_IN_OTHER(21),
-    /** The proof ends within the opening. */
+    /** The bytes end within the opening. */
     CUT_IN_OPENING(22),
-    /** The proof ends within the name or its length. */
+    /** The bytes end within the name or its length. */
     CUT_IN_NAME(23),
-    /** The proof ends within the key or its length. */
+    /** The bytes end within the key or its length. */
     CUT_IN_KEY(24),
     /** Bytes follow the proof. */
     BYTES_FOLLOW(25),
-    /** The version of the entry is neither 1 nor 2. */
+    /** The version is neither 1 nor 2. */
     VERSION(33),
     /** The version is lower than that of the entry before. */
     VERSION_BACK(34),
     /** The first epoch is 0. */
     FIRST_EPOCH(35),
-    /** The epoch is not later than that of the entry before. */
+    /** The epoch isn't later than that of the entry before. */
     NOT_LATER(36),
-    /** The previous epoch is not that of the entry before. */
+    /** The previous epoch isn't that of the entry before. */
     PREVIOUS_EPOCH(37),
-    /** The previous link is not that of the entry before. */
+    /** The previous link isn't that of the entry before. */
     PREVIOUS_LINK(38),
-    /** The version is 1 and the nonce is not that of the entry before. */
+    /** The version is 1 and the nonce isn't that of the entry before. */
     NONCE_CHANGED(39),
-    /** The signature is not valid. */
+    /** The signature isn't valid for the body, as the caller has verified it. */
     SIGNATURE(40),
-    /** The entry does not have 209 bytes. */
+    /** The entry isn't 209 bytes long. */
     ENTRY_LENGTH(48),
     /** The reply has no byte. */
     NO_REPLY(64),
-    /** The reply has another version than 1. */
+    /** The reply's first byte is not 1. */
     REPLY_VERSION(65),
-    /** The reply ends within its entry. */
+    /** The reply ends before its entry does. */
     CUT_IN_ENTRY(66),
-    /** The bytes end within the VRF proof or its length. */
+    /** The reply or the history ends within the VRF proof or its length. */
     CUT_IN_VRF(67),
-    /** The catch-up does not have 209 bytes for each entry. */
+    /** The number of a catch-up's bytes is not a multiple of 209. */
     CATCH_UP_LENGTH(68),
     /** The history has no byte. */
     NO_HISTORY(69),
-    /** The history has another version than 1. */
+    /** The history's first byte is not 1. */
     HISTORY_VERSION(70),
     /** The history ends within a step. */
     CUT_IN_STEP(71),
-    /** The epochs of the history do not rise. */
+    /** A step's epoch is not greater than the one before. */
     EPOCH_ORDER(72),
-    /** A step has an unknown kind of end. */
+    /** The kind of a step's end is greater than 3, or 3 in the first step. */
     UNKNOWN_END(73),
-    /** A step has a spare bit, or lacks a sibling. */
+    /** A map has a spare bit, or a sibling is neither sent nor in the step before. */
     SIBLING_MAP(74),
-    /** A step sends a sibling that stays. */
+    /** A sibling is sent that equals the one in its place of the step before. */
     SIBLING_REPEATED(75),
-    /** A step sends an end that stays. */
+    /** An end is sent that equals the one of the step before. */
     END_REPEATED(76),
     /** The signed entry has another policy digest than the directory's. */
     OTHER_POLICY(80),
-    /** No chain contains the signed entry. */
+    /** No chain has the signed entry. */
     MALFORMED(81),
-    /** The signed entry and one of the chain convict the provider. */
+    /** The signed entry and a kept one are evidence. */
     EQUIVOCATION(82),
     /** The chain has no entry at this epoch. */
     UNKNOWN_EPOCH(83),
-    /** The reply is of another epoch than the one that was asked for. */
+    /** The reply's body is not that of the client's entry at the requested epoch. */
     OTHER_EPOCH(84),
-    /** The latest epoch is too old by the policy's clock. */
+    /** The latest epoch began too long ago. */
     STALE(85),
-    /** The latest epoch has not begun by the policy's clock. */
+    /** The latest epoch begins too far in the future. */
     FUTURE(86),
     /** The VRF proof is not one of this name. */
     VRF_PROOF(87),
     /** The state has fewer than 110 bytes. */
     STATE_LENGTH(96),
-    /** The state has another version than 3. */
+    /** The state's first byte is not 3. */
     STATE_VERSION(97),
-    /** The state was changed. */
+    /** The state's digest is not that of the bytes before it. */
     STATE_DAMAGED(98),
-    /** The state is that of another directory. */
+    /** The state's policy digest is not that of the client. */
     STATE_POLICY(99),
-    /** A part of the state has a form that no state has. */
+    /** A part of the state has a form that no state has, or bytes follow. */
     STATE_FORM(100),
     /** The entries in the state are no chain of this directory. */
     STATE_CHAIN(101),
-    /** Too few auditors have the entry. */
+    /** Fewer auditors than a quorum have the entry's head. */
     NOT_VOUCHED(104),
-    /** An auditor has another link for the epoch. */
+    /** An auditor has another link for the entry's epoch. */
     AUDITORS_DIFFER(105),
     /** The signing key is no point of prime order. */
     SIGNING_KEY(112),

@@ -1,0 +1,102 @@
+"""`scripts/tables`: what is generated is what formats.toml says, and a file that was edited by hand is found."""
+
+from __future__ import annotations
+
+import re
+import shutil
+import subprocess
+from functools import cache
+from pathlib import Path
+
+import pytest
+
+TOP = Path(__file__).resolve().parents[2]
+NOTED = re.compile(r"formats\.toml: (?!end)\w+|[Gg]enerated from formats\.toml")
+
+# A name or a text, one of which is in each generated file.
+KNOWN = re.compile("TOO_?DEEP|TooDeep|too_deep|no chain has the signed entry|NO_REPLY|NameTwice|name_twice|GUARD_E_LOG_BEHIND")
+
+
+def listed() -> list[str]:
+    """The files that git knows or would add, without documents and what is about the generator itself."""
+    words = ["git", "ls-files", "--cached", "--others", "--exclude-standard"]
+    named = subprocess.run(words, cwd=TOP, capture_output=True, text=True, check=True).stdout.splitlines()
+    return [it for it in named if (TOP / it).is_file() and not it.endswith(".md") and "scripts/" not in it]
+
+
+@cache
+def generated() -> list[str]:
+    """The files of which some part says that it is generated."""
+    return [it for it in listed() if NOTED.search((TOP / it).read_bytes().decode("utf-8", "replace"))]
+
+
+@pytest.fixture
+def room(tmp_path: Path) -> Path:
+    for it in [*generated(), "formats.toml", "scripts/tables"]:
+        (tmp_path / it).parent.mkdir(parents=True, exist_ok=True)
+        shutil.copy(TOP / it, tmp_path / it)
+    return tmp_path
+
+
+def tables(room: Path, *words: str) -> tuple[int, str]:
+    ran = subprocess.run([room / "scripts/tables", *words], capture_output=True, text=True)
+    return ran.returncode, ran.stdout + ran.stderr
+
+
+def replace(file: Path, old: str, new: str) -> None:
+    text = file.read_text("utf-8")
+    assert old in text
+    file.write_text(text.replace(old, new), "utf-8")
+
+
+def test_unchanged(room: Path) -> None:
+    assert tables(room, "--check") == (0, "")
+    assert tables(room) == (0, "")
+
+
+@pytest.mark.parametrize("file", [it for it in generated() if it != "formats.toml"])
+def test_edited(room: Path, file: str) -> None:
+    """A number, a name or a text that was edited in one of the files is found, and written again."""
+    text = (room / file).read_text("utf-8")
+    mark = NOTED.search(text)
+    assert mark
+    row = KNOWN.search(text, mark.end())
+    assert row, f"{file} has a row that is known here"
+    (room / file).write_text(f"{text[: row.end()]}x{text[row.end() :]}", "utf-8")
+    assert tables(room, "--check") == (1, f"{file} differs from formats.toml: run scripts/tables\n")
+    assert tables(room) == (0, f"{file}\n")
+    assert tables(room, "--check") == (0, "")
+
+
+def test_a_status_more(room: Path) -> None:
+    """A row of the table reaches all languages: each file that has the last cause of lookups has the new one then."""
+    row = 'VrfProof = { number = 87, text = "the VRF proof is not one of this name", do = "ask for the reply again" }\n'
+    replace(room / "formats.toml", row, f'{row}NewMoon = {{ number = 88, text = "the moon is new", do = "wait for light" }}\n')
+    before = {it for it in generated() if re.search("vrf_?proof", (room / it).read_text("utf-8"), re.I)}
+    assert tables(room)[0] == 0
+    after = {it for it in generated() if re.search("new_?moon", (room / it).read_text("utf-8"), re.I)}
+    languages = {".py", ".go", ".rs", ".java", ".js", ".ts", ".h", ".c", ".rt", ".antt"}
+    assert {Path(it).suffix for it in after} == languages, "each language has it"
+    assert after >= before - {"formats.toml"}
+
+
+def test_a_longer_part(room: Path) -> None:
+    """Lengths and places follow from the lengths of the parts."""
+    replace(room / "formats.toml", "signature = 64", "signature = 114")
+    assert tables(room)[0] == 0
+    assert "CONIKS_ENTRY_BYTES = 259," in (room / "include/coniks.h").read_text("utf-8")
+    assert "SIGNATURE = slice(145, 259)" in (room / "embed/python/src/coniks/_formats.py").read_text("utf-8")
+
+
+@pytest.mark.parametrize("end", ["formats.toml: end", "formats.toml: statuses"])
+def test_lost_marks(room: Path, end: str) -> None:
+    """A file that lost the lines around its generated part is an error, and stays."""
+    header = room / "include/coniks_guard.h"
+    replace(header, end, "")
+    text = header.read_text("utf-8")
+    assert tables(room) == (1, "scripts/tables: no part `formats.toml: statuses`\n")
+    assert header.read_text("utf-8") == text
+
+
+def test_usage(room: Path) -> None:
+    assert tables(room, "--what")[0] == 2
