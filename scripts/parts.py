@@ -434,7 +434,6 @@ LANGUAGES = [
             "web/telling.mjs",
             "web/build",
             "cases/client/*",
-            "formats.toml",
             "web/tests/proofs.json",
             FORMATS,
         ],
@@ -598,7 +597,7 @@ REST = [
     Part(
         "formats.toml",
         [
-            *("formats.toml", "scripts/tables", "crates/coniks_c/*/*", "crates/coniks_json/*/*", "include/*"),
+            *("formats.toml", "scripts/tables", "crates/coniks_c/*/*", "crates/coniks_programs/*/*", "include/*"),
             *("embed/python/src/coniks/*", "embed/go/*", "embed/go/client/*", "embed/rust/src/**", "embed/java/src/main/**"),
             *("embed/c/client*", "web/src/formats.js", "web/coniks.d.ts"),
         ],

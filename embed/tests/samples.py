@@ -6,9 +6,9 @@ import base64
 import hashlib
 import json
 import re
+import runpy
 import subprocess
 import tempfile
-import tomllib
 from pathlib import Path
 from random import Random
 from typing import Any, Callable, Optional, Sequence, Union
@@ -37,10 +37,8 @@ def statuses() -> dict[str, int]:
 
 def texts() -> dict[str, str]:
     """The texts of the library's errors, by their names in `enum coniks_status` without `E_`."""
-    groups = tomllib.loads((TOP / "formats.toml").read_text("utf-8"))["statuses"].values()
-    rows = {name: row for it in groups for name, row in it.items() if isinstance(row, dict)}
-    named = {row.get("symbol", name): row["text"] for name, row in rows.items()}
-    return {re.sub(r"(?<!^)(?=[A-Z])", "_", name).upper(): text for name, text in named.items()}
+    tables = runpy.run_path(str(TOP / "scripts/tables"))
+    return {it.upper: it.text for it in tables["all_rows"](tables["read_table"]().statuses)}
 
 
 def lines_of(program: str, script: Union[str, Path]) -> list[Line]:

@@ -6,7 +6,6 @@ import json
 import re
 import shutil
 import subprocess
-import tomllib
 from pathlib import Path
 
 import pytest
@@ -45,7 +44,7 @@ def test_archive(tmp_path: Path) -> None:
     archive = OUT / "libconiks_c.a"
     symbols = subprocess.run(["nm", "--defined-only", "--extern-only", archive], capture_output=True, text=True).stdout
     assert sorted(re.findall(r" T (\w+)", symbols)) == sorted(NAMES)
-    text = tomllib.loads((TOP / "formats.toml").read_text("utf-8"))["statuses"]["proof"]["TooDeep"]["text"]
+    text = "the proof has more than 256 siblings"
     (tmp_path / "program.c").write_text(PROGRAM.replace("CONIKS_STATUS", "CONIKS_E_TOO_DEEP"))
     files = [str(it) for it in (tmp_path / "program.c", archive)]
     subprocess.run([tools.CC, f"-I{TOP}/include", *files, "-o", str(tmp_path / "program")], check=True)

@@ -3,7 +3,7 @@
 
 import { Coniks } from "./coniks.js";
 import { Core, NOWHERE } from "./core.js";
-import { KINDS } from "./formats.js";
+import { GOOD, KINDS, NO_EVIDENCE } from "./formats.js";
 import { Refusal, misuse } from "./messages.js";
 import { seconds, whole } from "./values.js";
 
@@ -16,7 +16,7 @@ import { seconds, whole } from "./values.js";
  */
 
 // Numbers of coniks.h and coniks_core.h.
-const [GOOD, MISUSE, NO_EVIDENCE, SHOWS_KEY] = [0, 128, 50, 1];
+const [MISUSE, SHOWS_KEY] = [128, 1];
 /** What was seen at an epoch, by its number there. @type {(string | null)[]} */
 export const SEEN = [null, "same", null, "changed", "absent", "missing"];
 /** Of a client without a trust document. */

@@ -8,7 +8,7 @@ import { isSame } from "./bytes.js";
 import { Chain, NO_TRUST, SEEN } from "./chain.js";
 import { Coniks } from "./coniks.js";
 import { NOWHERE } from "./core.js";
-import { ENTRY } from "./formats.js";
+import { ENTRY, GOOD, MISUSED } from "./formats.js";
 import { Refusal } from "./messages.js";
 import { Policy } from "./policy.js";
 import { bytes, nameBytes, seconds, unsigned, whole } from "./values.js";
@@ -24,7 +24,7 @@ import { Verifier } from "./verdicts.js";
 
 const LONGEST = 2n ** 64n - 1n;
 // Numbers of coniks_core.h, and what its others are here.
-const [GOOD, NOT_CONFIRMED, MISSING] = [0, 139, 5];
+const MISSING = 5;
 /** @type {Comparison[]} */
 const COMPARED = ["equal", "unknown", "differs"];
 const REPORTED = ["changed", "missing", "lost", "unwatched", "unconfirmed", "good"];
@@ -219,7 +219,7 @@ export class Client {
   /** Whether a quorum of the auditors confirms the epoch of what was found. @param {any} found @returns {boolean} */
   isRelied(found) {
     const status = this.#core.relied(this.#place(unsigned(found?.epoch, 64, "the epoch of what was found")));
-    if (status !== NOT_CONFIRMED) this.#chain.check(status);
+    if (status !== MISUSED.NotConfirmed) this.#chain.check(status);
     return status === GOOD;
   }
 

@@ -2,10 +2,10 @@
 
 import { toHex } from "./bytes.js";
 import { Desk } from "./desk.js";
+import { GOOD } from "./formats.js";
 
 /** @typedef {{status: number, key: Uint8Array | null}} Checked */
 
-const GOOD = 0;
 
 /**
  * The parts of an entry's body.

@@ -5,7 +5,7 @@
 // of 8 bytes, with the least significant byte first: a word has a number, a length or a place, or one or two short numbers of 4 bytes.
 
 import { Rows } from "./desk.js";
-import { ENTRY } from "./formats.js";
+import { ENTRY, GOOD } from "./formats.js";
 
 /**
  * What a client has for its life: its policy digest, the members of `coniks_present` but the time, those of `coniks_promise`, and of its
@@ -21,7 +21,6 @@ import { ENTRY } from "./formats.js";
  */
 
 const [KEPT, CHANGE, ALARM, WATCH, VERDICTS, HEAD, SIBLINGS, STEP, LONG] = [218, 32, 16, 48, 40, 48, 8192, 32, 8];
-const GOOD = 0;
 /** A place that is none: SIZE_MAX. */
 export const NOWHERE = 2n ** 64n - 1n;
 

@@ -1,6 +1,7 @@
 // Evidence that a provider equivocated: two entries with valid signatures of its key that one chain can't have.
 
 import { Coniks } from "./coniks.js";
+import { GOOD } from "./formats.js";
 import { epochBefore, epochOf } from "./layout.js";
 
 /**
@@ -11,8 +12,6 @@ import { epochBefore, epochOf } from "./layout.js";
  * chain has.
  * @typedef {{kind: number, a: Interval, b: Interval}} Evidence
  */
-
-const GOOD = 0;
 
 /** @param {Uint8Array} entry @returns {Interval} */
 function intervalOf(entry) {

@@ -4,6 +4,8 @@ export const BODY = 145;
 export const ENTRY = 209;
 /** The bytes of a reply before its VRF proof. */
 export const REPLY_FRONT = 212;
+/** The most bytes of a name. */
+export const MAX_NAME = 255;
 
 /** The parts of an entry: from which byte to which. @type {Record<string, [number, number]>} */
 export const PLACES = {
@@ -15,6 +17,30 @@ export const PLACES = {
   nonce: [81, 113],
   policy: [113, 145],
   signature: [145, 209],
+};
+
+/** Statuses that are no errors. */
+export const GOOD = 0;
+export const ABSENT = 1;
+export const CHANGED = 9;
+export const NO_EVIDENCE = 50;
+
+/** The statuses of a call of the core that its caller must not make. */
+export const MISUSED = {
+  Name: 130,
+  ExpectedKey: 131,
+  OtherWatch: 132,
+  NotWatching: 133,
+  ChangeOpen: 134,
+  SameKey: 135,
+  NotLater: 136,
+  NoRoom: 137,
+  NoAuditor: 138,
+  NotConfirmed: 139,
+  HasEntries: 140,
+  NoQuorum: 141,
+  ManyHeads: 142,
+  NoState: 143,
 };
 
 /** The kinds of evidence. */

@@ -1,6 +1,6 @@
 // Why a client refuses what it is given (docs/FORMATS.md, "Replies to clients"), and what its caller must not do.
 
-import { CAUSES } from "./formats.js";
+import { CAUSES, MAX_NAME, MISUSED } from "./formats.js";
 
 /**
  * Two signed entries that convict the owner of the signing key: `mine` is one that the client kept, or `other` itself.
@@ -9,17 +9,17 @@ import { CAUSES } from "./formats.js";
 
 /** What the caller of a client must not do, by the numbers of coniks_core.h. @type {Record<number, (it: Record<string, any>) => string>} */
 const MISUSES = {
-  130: ({ length }) => `a name has 1 to 255 bytes, not ${length}`,
-  131: () => "an expected key has fewer than 2^32 bytes",
-  132: () => "this client watches another name or key: use `expect`, or make another client",
-  133: () => "no name is watched: call `watch` first",
-  134: ({ last }) => `another change is expected by epoch ${last}: expect the next one after it`,
-  135: () => "the new key is the one that is expected already",
-  136: ({ latest }) => `epoch ${latest} is in the chain: expect the new key by a later one`,
-  138: () => "the trust document has no such auditor",
-  141: () => "at least one auditor vouches for an entry",
-  142: () => "at most 64 auditors vouch for an entry",
-  143: () => "a state has room for fewer than 2^32 epochs, changes, alarms and marks",
+  [MISUSED.Name]: ({ length }) => `a name has 1 to ${MAX_NAME} bytes, not ${length}`,
+  [MISUSED.ExpectedKey]: () => "an expected key has fewer than 2^32 bytes",
+  [MISUSED.OtherWatch]: () => "this client watches another name or key: use `expect`, or make another client",
+  [MISUSED.NotWatching]: () => "no name is watched: call `watch` first",
+  [MISUSED.ChangeOpen]: ({ last }) => `another change is expected by epoch ${last}: expect the next one after it`,
+  [MISUSED.SameKey]: () => "the new key is the one that is expected already",
+  [MISUSED.NotLater]: ({ latest }) => `epoch ${latest} is in the chain: expect the new key by a later one`,
+  [MISUSED.NoAuditor]: () => "the trust document has no such auditor",
+  [MISUSED.NoQuorum]: () => "at least one auditor vouches for an entry",
+  [MISUSED.ManyHeads]: () => "at most 64 auditors vouch for an entry",
+  [MISUSED.NoState]: () => "a state has room for fewer than 2^32 epochs, changes, alarms and marks",
 };
 
 /** The text of a misuse. @param {number} status @param {Record<string, any>} values @returns {string} */

@@ -2,7 +2,7 @@
 
 import { Client, expectedKey } from "./client.js";
 import { Coniks } from "./coniks.js";
-import { BODY, KINDS } from "./formats.js";
+import { ABSENT, BODY, CAUSES, CHANGED, GOOD, KINDS, NO_EVIDENCE } from "./formats.js";
 import { Refusal } from "./messages.js";
 import { Policy, readPolicy } from "./policy.js";
 import { Unsupported } from "./schemes.js";
@@ -10,12 +10,10 @@ import { bytes, nameBytes, unsigned } from "./values.js";
 
 export { Policy, Refusal, Unsupported, readPolicy };
 
-const ABSENT = 1;
 const STATE_BYTES = 80;
 const UNUSED = 7;
-const NO_EVIDENCE = 50;
-const ENTRY_LENGTH = 48;
-const SEEN = new Map([[0, "same"], [1, "absent"], [9, "changed"]]);
+const [ENTRY_LENGTH] = CAUSES.EntryLength;
+const SEEN = new Map([[GOOD, "same"], [ABSENT, "absent"], [CHANGED, "changed"]]);
 
 /** Why a proof or an entry isn't accepted: `status` is its number in coniks.h, `message` its text. */
 export class Refused extends Error {

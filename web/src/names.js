@@ -1,8 +1,8 @@
 // The form of names, which a service and its clients share (coniks.names): Unicode NFC, without case.
 
 import { FOLDED } from "./folding.js";
+import { MAX_NAME } from "./formats.js";
 
-const LONGEST = 255;
 
 /** What no name has: control characters, lone surrogates, and code points that a later version of Unicode may give another form. */
 const REFUSED = /[\p{Cc}\p{Cs}\p{Cn}]/u;
@@ -26,6 +26,6 @@ export function canonical(text) {
   // Canonical caseless matching (Unicode, D145), and then NFC.
   const name = Array.from(text.normalize("NFD"), folded).join("").normalize("NFC");
   const size = new TextEncoder().encode(name).length;
-  if (size < 1 || size > LONGEST) throw new RangeError(`a name has 1 to ${LONGEST} bytes in its form NFC without case`);
+  if (size < 1 || size > MAX_NAME) throw new RangeError(`a name has 1 to ${MAX_NAME} bytes in its form NFC without case`);
   return name;
 }

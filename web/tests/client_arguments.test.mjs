@@ -132,19 +132,18 @@ test("numbers", async () => {
     same(`the number of ${why}`, [refusal.number, refusal.why], [Number(number), why]);
     same(`the text of ${why}`, Number(number) < 64 || /^[a-z].{10}/.test(refusal.message), true);
   }
-  const text = (name) => read("formats.toml").match(new RegExp(`^${name} = .* text = "(.*?)"`, "m"))[1];
   const client = await begun();
   await assert.rejects(client.lookup("alice", new Uint8Array(0)), /the reply has no byte: /);
   client.watch("alice", key);
   await assert.rejects(async () => client.expect(textBytes("l"), 0), /epoch 0 is in the chain: /);
-  for (const [what, call, name, number] of [
-    ["an entry", () => client.feed([new Uint8Array(208)]), "EntryLength", 48],
-    ["a signature", () => client.feed([Uint8Array.from(entries[0], (it, i) => (i === 208 ? it ^ 1 : it))]), "Signature", 40],
-    ["a first entry", () => client.feed([entries[1]]), "PreviousEpoch", 37],
-    ["a deep step", () => client.history("alice", Buffer.concat([history.subarray(0, 83), data("000000000000000100ffff")])), "TooDeep", 2],
+  for (const [what, call, text, number] of [
+    ["an entry", () => client.feed([new Uint8Array(208)]), "the entry isn't 209 bytes long", 48],
+    ["a signature", () => client.feed([Uint8Array.from(entries[0], (it, i) => (i === 208 ? it ^ 1 : it))]), "the signature isn't valid for this body", 40],
+    ["a first entry", () => client.feed([entries[1]]), "the previous epoch isn't that of the entry before", 37],
+    ["a deep step", () => client.history("alice", Buffer.concat([history.subarray(0, 83), data("000000000000000100ffff")])), "the proof has more than 256 siblings", 2],
   ]) {
     const refusal = await call().catch((error) => error);
-    same(what, [refusal.message, refusal.number, refusal.status], [text(name), number, number]);
+    same(what, [refusal.message, refusal.number, refusal.status], [text, number, number]);
     same(`${what} is a refusal`, [refusal instanceof Refusal, refusal instanceof Error, refusal.name, refusal.cause], [true, true, "Refusal", undefined]);
   }
 });

@@ -93,7 +93,7 @@ func (m *memory) misuse(status C.uint32_t, name string) error {
 	case 0:
 		return nil
 	case nameLength:
-		return fmt.Errorf("a name has 1 to 255 bytes, not %d", len(name))
+		return fmt.Errorf("a name has 1 to %d bytes, not %d", maxName, len(name))
 	case changeOpen:
 		return fmt.Errorf("another change is expected by epoch %d: expect the next one after it", m.changes[len(m.changes)-1].firstNew)
 	case notLater:

@@ -5,6 +5,9 @@ package client
 // epochStart is the place of an entry's epoch.
 const epochStart = 1
 
+// maxName is the most bytes of a name.
+const maxName = 255
+
 // The proof is not accepted.
 const (
 	TooDeep      Cause = 2

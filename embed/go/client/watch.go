@@ -67,7 +67,7 @@ func (c *Client) WatchSince(name string, key []byte, since uint64) error {
 
 func (c *Client) watchFrom(name string, key []byte, since *uint64) error {
 	defer c.locked()()
-	if isEmpty(key) && len(name) > 0 && len(name) <= 255 {
+	if isEmpty(key) && len(name) > 0 && len(name) <= maxName {
 		return errEmptyKey
 	}
 	return c.memory.misuse(c.memory.beginWatch(name, key, since), name)

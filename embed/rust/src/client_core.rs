@@ -9,8 +9,6 @@ use std::vec::Vec;
 
 /// `SIZE_MAX`, as the place of an entry that convicts alone.
 pub const NOWHERE: usize = usize::MAX;
-/// No quorum of auditors confirms an epoch, or this one.
-pub const NOT_CONFIRMED: u32 = 139;
 
 #[repr(C)]
 #[derive(Clone, Copy)]

@@ -4,6 +4,14 @@
 pub const BODY_BYTES: usize = 145;
 /// The bytes of an entry: its body and its signature.
 pub const ENTRY_BYTES: usize = 209;
+/// The most bytes of a name.
+pub const MAX_NAME: usize = 255;
+
+// Statuses that are no errors.
+pub(crate) const GOOD: u32 = 0;
+pub(crate) const ABSENT: u32 = 1;
+pub(crate) const CHANGED: u32 = 9;
+pub(crate) const NO_EVIDENCE: u32 = 50;
 
 /// Why a proof or an entry is not accepted, by the numbers of `coniks.h`. Its display is the library's text.
 #[derive(Clone, Copy, Debug, PartialEq, Eq, Hash)]

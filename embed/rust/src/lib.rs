@@ -20,8 +20,9 @@ mod formats;
 mod sodium;
 
 use core::fmt;
+use formats::{ABSENT, CHANGED, GOOD, NO_EVIDENCE};
 
-pub use formats::{Error, BODY_BYTES, ENTRY_BYTES};
+pub use formats::{Error, BODY_BYTES, ENTRY_BYTES, MAX_NAME};
 
 /// The bytes of an auditor's state.
 pub const STATE_BYTES: usize = 80;
@@ -85,11 +86,6 @@ mod c {
         pub fn coniks_version() -> u32;
     }
 }
-
-const GOOD: u32 = 0;
-const ABSENT: u32 = 1;
-const CHANGED: u32 = 9;
-const NO_EVIDENCE: u32 = 50;
 
 impl Error {
     fn of(status: u32) -> Self {

@@ -34,7 +34,7 @@ from dataclasses import dataclass
 from pathlib import Path
 from typing import Any, Mapping, Optional, Sequence, Union
 
-from ._formats import BODY_LENGTH, ENTRY_LENGTH, EvidenceKind, Status
+from ._formats import BODY_LENGTH, ENTRY_LENGTH, NO_EVIDENCE, EvidenceKind, Status
 from .policy import Policy
 
 __version__ = "1.0.0"
@@ -60,8 +60,6 @@ __all__ = [
 ]
 
 Name = Union[str, bytes]
-
-_NO_EVIDENCE = 50
 
 
 class Seen(enum.Enum):
@@ -388,7 +386,7 @@ def convicts(a: bytes, b: bytes) -> Optional[EvidenceKind]:
     signatures with that key first. Raises `Refused` for another length."""
     a, b, kind = _bytes(a, "an entry"), _bytes(b, "an entry"), ctypes.c_uint32()
     status = _library.coniks_convicts(a, len(a), b, len(b), ctypes.byref(kind))
-    if status == _NO_EVIDENCE:
+    if status == NO_EVIDENCE:
         return None
     if status:
         raise Refused(status)

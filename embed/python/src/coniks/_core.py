@@ -7,10 +7,10 @@ import ctypes
 from ctypes import POINTER, c_char_p, c_size_t, c_uint8, c_uint32, c_uint64, c_void_p
 
 from . import ENTRY_LENGTH, _Bytes32, _Exports, _Library
+from ._formats import MAX_SIBLINGS
 
 # SIZE_MAX.
 NOWHERE: int = 2 ** (8 * ctypes.sizeof(c_size_t)) - 1
-NO_EVIDENCE = 50
 
 
 class Kept(ctypes.Structure):
@@ -87,7 +87,7 @@ class HistoryNeeds(ctypes.Structure):
 
 
 class Siblings(ctypes.Structure):
-    _fields_ = [("strings", c_uint8 * 32 * 256)]
+    _fields_ = [("strings", c_uint8 * 32 * MAX_SIBLINGS)]
 
 
 class Step(ctypes.Structure):

@@ -21,6 +21,21 @@ SIGNATURE = slice(145, 209)
 # The bytes of a reply before its VRF proof.
 REPLY_FRONT = 212
 
+# The most bytes of a name; at least 1.
+MAX_NAME = 255
+# The most bytes of a key; at least 1.
+MAX_KEY = 16384
+# The most siblings of a proof.
+MAX_SIBLINGS = 256
+# The most operations of a batch.
+MAX_OPERATIONS = 4096
+
+# Statuses that are no errors.
+GOOD = 0
+ABSENT = 1
+CHANGED = 9
+NO_EVIDENCE = 50
+
 
 class Status(enum.IntEnum):
     """Why a proof or an entry is refused, by the numbers of coniks.h."""

@@ -9,12 +9,11 @@ from dataclasses import dataclass, field
 from typing import Any, Callable, Iterable, Iterator, Mapping, Optional, Union
 
 from . import BODY_LENGTH, ENTRY_LENGTH, _bytes, faults
-from ._formats import SIGNATURE_LENGTH
+from ._formats import MAX_NAME, SIGNATURE_LENGTH
 from ._threads import Turn
 from .faults import LogFailed, NotText, ProgramFailed, ProviderError
 
-# A name has at most 255 bytes.
-_TOO_LONG = "a" * 256
+_TOO_LONG = "a" * (MAX_NAME + 1)
 
 
 def _opening() -> bytes:

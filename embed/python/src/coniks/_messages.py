@@ -7,11 +7,10 @@ from dataclasses import dataclass
 from typing import Any, Iterable, Iterator, Optional, Sequence, Tuple
 
 from . import ENTRY_LENGTH, EvidenceKind, Status, _bytes, text
-from ._formats import TEXTS, Cause, Misuse
+from ._formats import MAX_NAME, MAX_SIBLINGS, TEXTS, Cause, Misuse
 
 VERSION = b"\x01"
 NOT_SENT = 3
-DEEPEST = 256
 
 # The kind of a proof's end, and its bytes.
 End = Tuple[int, bytes]
@@ -19,7 +18,7 @@ End = Tuple[int, bytes]
 
 # What the caller of a client must not do.
 MISUSES = {
-    Misuse.NAME: "a name has 1 to 255 bytes, not {length}",
+    Misuse.NAME: f"a name has 1 to {MAX_NAME} bytes, not {{length}}",
     Misuse.EXPECTED_KEY: "an expected key has fewer than 2^32 bytes",
     Misuse.OTHER_WATCH: "this client watches another name or key: use `expect`, or make another client",
     Misuse.NOT_WATCHING: "no name is watched: call `watch` first",
@@ -197,7 +196,7 @@ def read_step(it: Reader, before: Step) -> Step:
         raise Refusal(Cause.EPOCH_ORDER)
     if kind > NOT_SENT or (kind == NOT_SENT and before is NO_STEP):
         raise Refusal(Cause.UNKNOWN_END)
-    if count > DEEPEST:
+    if count > MAX_SIBLINGS:
         raise Refusal(Cause.TOO_DEEP)
     siblings = read_siblings(it, count, before.siblings)
     return Step(epoch, before.end if kind == NOT_SENT else read_end(it, kind, before.end), siblings)

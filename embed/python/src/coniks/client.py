@@ -48,7 +48,7 @@ from typing import Any, Callable, Iterable, Iterator, Mapping, NoReturn, Optiona
 
 from . import ENTRY_LENGTH, EvidenceKind, Head, Name, Policy, Status, _bytes, _bytes32, _core, _name, _number, convicts, link
 from ._core import library
-from ._formats import Cause, Misuse
+from ._formats import NO_EVIDENCE, Cause, Misuse
 from ._memory import Memory
 from ._messages import MISUSES, Evidence, Refusal
 from ._verdicts import IndexScheme, SignatureScheme, Verifier, part
@@ -289,7 +289,7 @@ class Client:
         entry, why = _bytes(other_entry, "an entry"), _core.Why()
         is_signed = self._verifier.of_entry(entry)
         status = library.coniks_core_evidence(*self._memory.kept.present, entry, len(entry), is_signed, why)
-        if status == _core.NO_EVIDENCE:
+        if status == NO_EVIDENCE:
             alone = convicts(entry, entry)
             return Evidence(entry, entry, alone) if alone else None
         check(status)

@@ -28,6 +28,7 @@ from urllib.parse import urlsplit
 from . import Body, Policy, __version__
 from ._client_state import StateFile
 from ._confirming import Agreement, Confirming, settle
+from ._formats import MAX_KEY
 from ._http import check_token
 from ._messages import Reply
 from ._own_names import OwnNames
@@ -41,7 +42,7 @@ from .vouching import Change
 __all__ = ["main"]
 
 # The most bytes of a key.
-_LONGEST_KEY = 16384 - 144
+_LONGEST_KEY = MAX_KEY - 144
 _COMMANDS = {
     "begin": "begin with a directory",
     "register": "register a name of yours with a key, or change its key, and watch it from then on",

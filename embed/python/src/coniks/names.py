@@ -5,10 +5,11 @@ from __future__ import annotations
 import unicodedata
 
 from ._folding import FOLDED
+from ._formats import MAX_NAME
 
 __all__ = ["BadName", "canonical", "shown"]
 
-LONGEST = 255
+LONGEST = MAX_NAME
 # Control characters, lone surrogates, and code points that a later version of Unicode may give another form.
 _REFUSED = {"Cc", "Cs", "Cn"}
 

@@ -1,6 +1,6 @@
 //! Why a client refuses something, what its caller must not do, and what convicts a provider.
 
-use super::causes::Cause;
+use super::causes::{misuses, Cause};
 use crate::{Error, EvidenceKind, ENTRY_BYTES};
 use core::fmt;
 use std::boxed::Box;
@@ -22,8 +22,11 @@ impl fmt::Display for Cause {
     }
 }
 
+/// The number that a client in C has for it: the core is not asked.
+const TOO_MANY_FAULTY: u32 = 144;
+
 macro_rules! misuses {
-    ($($(#[$doc:meta])* $name:ident = $number:literal: $text:literal;)*) => {
+    ($($(#[$doc:meta])* $name:ident = $number:path: $text:literal;)*) => {
         /// A call that the client's caller must not make. The client is unchanged.
         #[derive(Clone, Copy, Debug, PartialEq, Eq, Hash)]
         #[non_exhaustive]
@@ -54,23 +57,23 @@ macro_rules! misuses {
 
 misuses! {
     /// The name has no byte, or more than 255.
-    NameLength = 130: "a name has 1 to 255 bytes";
+    NameLength = misuses::NAME: "a name has 1 to 255 bytes";
     /// The expected key has no byte, or 2^32 or more.
-    KeyLength = 131: "an expected key has at least one byte, and less than 2^32; None expects none";
+    KeyLength = misuses::EXPECTED_KEY: "an expected key has at least one byte, and less than 2^32; None expects none";
     /// The client watches another name, another key, or from another epoch on.
-    OtherWatch = 132: "this client watches another name or key: use `expect`, or make another client";
+    OtherWatch = misuses::OTHER_WATCH: "this client watches another name or key: use `expect`, or make another client";
     /// The client watches no name.
-    NotWatching = 133: "no name is watched: call `watch` first";
+    NotWatching = misuses::NOT_WATCHING: "no name is watched: call `watch` first";
     /// Another change of the key is not over.
-    ChangeOpen = 134: "another change is expected: expect the next one after it is over";
+    ChangeOpen = misuses::CHANGE_OPEN: "another change is expected: expect the next one after it is over";
     /// The new key is the one that is expected already.
-    SameKey = 135: "the new key is the one that is expected already";
+    SameKey = misuses::SAME_KEY: "the new key is the one that is expected already";
     /// The epoch by which the new key is expected is not after the latest one.
-    NotLater = 136: "this epoch is in the chain: expect the new key by a later one";
+    NotLater = misuses::NOT_LATER: "this epoch is in the chain: expect the new key by a later one";
     /// The trust document has no such auditor.
-    NoAuditor = 138: "the trust document has no such auditor";
+    NoAuditor = misuses::NO_AUDITOR: "the trust document has no such auditor";
     /// Three times the auditors that may be faulty are not fewer than all.
-    TooManyFaulty = 144: "more than three auditors are needed for each one that may be faulty";
+    TooManyFaulty = TOO_MANY_FAULTY: "more than three auditors are needed for each one that may be faulty";
 }
 
 impl core::error::Error for Misuse {}

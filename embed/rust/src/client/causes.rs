@@ -264,6 +264,19 @@ impl Cause {
     }
 }
 
+/// The statuses of a call of the core that its caller must not make.
+pub(super) mod misuses {
+    pub const NAME: u32 = 130;
+    pub const EXPECTED_KEY: u32 = 131;
+    pub const OTHER_WATCH: u32 = 132;
+    pub const NOT_WATCHING: u32 = 133;
+    pub const CHANGE_OPEN: u32 = 134;
+    pub const SAME_KEY: u32 = 135;
+    pub const NOT_LATER: u32 = 136;
+    pub const NO_AUDITOR: u32 = 138;
+    pub const NOT_CONFIRMED: u32 = 139;
+}
+
 impl From<Error> for Cause {
     fn from(error: Error) -> Self {
         match error {

@@ -47,13 +47,15 @@ mod verdicts;
 mod watched;
 
 pub use cause::{Evidence, Misuse, Refusal};
+use causes::misuses;
 pub use causes::Cause;
 pub use policy::{Policy, PolicyError, PolicyOrDigest};
 pub use schemes::{Ecvrf, Ed25519, IndexScheme, Keys, SignatureScheme, SigningKey, VrfKey};
 pub use watched::{Alarm, Report, Trust, Watched};
 
-use crate::client_core::{self as core_calls, Array, Promise, RawWatch, Slice, Text, Why, NOT_CONFIRMED, NOWHERE};
-use crate::{convicts, link, Body, Error, EvidenceKind, Head, ENTRY_BYTES, NO_EVIDENCE};
+use crate::client_core::{self as core_calls, Array, Promise, RawWatch, Slice, Text, Why, NOWHERE};
+use crate::formats::NO_EVIDENCE;
+use crate::{convicts, link, Body, Error, EvidenceKind, Head, ENTRY_BYTES, MAX_NAME};
 use core::fmt;
 use core::num::NonZeroUsize;
 use core::time::Duration;
@@ -358,7 +360,7 @@ impl Client {
         let kept = self.memory.kept.get();
         let place = kept.binary_search_by_key(&epoch, epoch_of).unwrap_or(NOWHERE);
         match core_calls::relied(kept, place, &self.memory.marks, self.trust.quorum) {
-            NOT_CONFIRMED => Ok(false),
+            misuses::NOT_CONFIRMED => Ok(false),
             status => good((status, true)),
         }
     }
@@ -464,7 +466,7 @@ impl Client {
     /// [`Misuse`] for another name, key or first epoch than before, and for a name or key that no directory has.
     pub fn watch(&mut self, name: impl AsRef<[u8]>, key: Option<&[u8]>, since: Option<u64>) -> Result<(), Misuse> {
         let name = name.as_ref();
-        if matches!(key, Some([])) && (1..=255).contains(&name.len()) {
+        if matches!(key, Some([])) && (1..=MAX_NAME).contains(&name.len()) {
             return Err(Misuse::KeyLength);
         }
         let (name, key) = (Text::of(name), Text::of(key.unwrap_or_default()));
