@@ -1,4 +1,4 @@
-"""The pages that docs/draw makes from the sources: the definitions and the lemmas."""
+"""The pages that docs/draw makes from the sources, the definitions and the lemmas, and what the other pages cite and link."""
 
 from __future__ import annotations
 
@@ -27,7 +27,7 @@ DEFINITIONS = """\
 # Definitions
 
 The definitions that contracts cite, module by module, with the comments of `specs/`. `docs/draw` writes this page. A name in a
-contract is one of these, and links to its line; [PROMISES.md](PROMISES.md) has the contracts.
+contract is one of these, and links to its line; [PROMISES.md](../docs/PROMISES.md) has the contracts.
 """
 
 
@@ -141,12 +141,18 @@ def words_of(file: Path) -> set[str]:
     return set(re.findall(r"\w+", file.read_text("utf-8")))
 
 
+def listed() -> list[str]:
+    """The files that git knows or would add."""
+    words = ["git", "ls-files", "-z", "--cached", "--others", "--exclude-standard"]
+    named = subprocess.run(words, cwd=TOP, capture_output=True, check=True).stdout.decode().split("\0")
+    return sorted(it for it in set(named) if (TOP / it).is_file())
+
+
 def known_names() -> set[str]:
     """The names in the sources, and the parts of the names of all files."""
-    listed = subprocess.run(["git", "ls-files", "-z"], cwd=TOP, capture_output=True, check=True).stdout.decode().split("\0")
-    known = {part for it in listed for part in re.findall(r"\w+", it)}
-    for it in listed:
-        if it.endswith((".rt", ".antt", ".h", ".py", ".go")) and (TOP / it).is_file():
+    known = {part for it in listed() for part in re.findall(r"\w+", it)}
+    for it in listed():
+        if it.endswith((".rt", ".antt", ".h", ".py", ".go")):
             known |= words_of(TOP / it)
     return known
 
@@ -158,4 +164,36 @@ def unknown_names(pages: Sequence[str]) -> list[str]:
         text = (TOP / "docs" / page).read_text("utf-8")
         cited = {name for it in re.findall(r"`([^`]+)`", text) for name in re.findall(r"[A-Za-z_]\w*", it)}
         found += [f"docs/{page}: {it}" for it in sorted(cited - known)]
+    return found
+
+
+def without_code(page: str) -> str:
+    """A page without its blocks of code and its code spans."""
+    text = re.sub(r"^```.*?^```|^    .*?$", "", (TOP / page).read_text("utf-8"), flags=re.M | re.S)
+    return re.sub(r"`[^`\n]+`", "", text)
+
+
+def headings(page: str) -> list[str]:
+    return re.findall(r"^#+ (.*)$", re.sub(r"^```.*?^```", "", (TOP / page).read_text("utf-8"), flags=re.M | re.S), re.M)
+
+
+def anchors(page: str) -> set[str]:
+    """The anchors of a page's headings, as the services that show the pages make them."""
+    return {re.sub(r"[^\w\- ]", "", it.lower()).replace(" ", "-") for it in headings(page)}
+
+
+def broken_links() -> list[str]:
+    """The links of all pages to no file or heading, and the sections of pages in docs/ that files name and no page has."""
+    files, found = listed(), []
+    for page in (it for it in files if it.endswith(".md")):
+        for link in re.findall(r"\]\(([^)\s]+)\)", without_code(page)):
+            target, _, anchor = link.partition("#")
+            to = (TOP / page).parent / target if target else TOP / page
+            if not link.startswith("https://") and not (to.exists() and (not anchor or anchor in anchors(str(to)))):
+                found.append(f"{page}: {link}")
+    for file in files:
+        text = re.sub(r"\s*\n[\s/*#!-]*", " ", (TOP / file).read_bytes().decode("utf-8", "replace"))
+        for page, section in re.findall(r"(docs/\w+\.md)`?,? \(?\"(\w[^\"\\]*)\"", text):
+            if not (TOP / page).is_file() or section not in headings(page):
+                found.append(f'{file}: {page}, "{section}"')
     return found
