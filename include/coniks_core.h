@@ -52,7 +52,7 @@
 extern "C" {
 #endif
 
-/* Why the core refuses something, beside the statuses of coniks.h. docs/FORMATS.md has those below 128. */
+/* Why the core refuses something, beside the statuses of coniks.h. docs/FORMATS.md and docs/STORED.md have those below 128. */
 enum coniks_core_status {
     /* A history with a step of more than 256 siblings is CONIKS_E_TOO_DEEP. */
 

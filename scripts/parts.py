@@ -14,8 +14,8 @@ from typing import Iterable, Sequence
 # The words of a command that `./gate quick` replaces by the path of a program.
 KEYDIR, PROVIDER = "KEYDIR", "PROVIDER"
 
-# The page whose examples and tables several tests read.
-FORMATS = "docs/FORMATS.md"
+# The pages whose examples and tables several tests read.
+FORMATS, LINES, STORED = "docs/FORMATS.md", "docs/LINES.md", "docs/STORED.md"
 
 # The tests that `./gate quick` leaves out, since they take minutes: they kill processes, or interrupt calls at each bytecode.
 SHORT = ["-m", "not interrupts and not kills"]
@@ -114,6 +114,7 @@ PYTHON = [
             *package("guard", "_guarding", "_files"),
             *tests("provider", "conftest", "guard_ends", "bodies", "interrupts", "kills"),
             FORMATS,
+            STORED,
         ],
         tests("provider", "test_guards", "test_guard_ends"),
         SHORT,
@@ -145,7 +146,7 @@ PYTHON = [
     ),
     Part(
         "policies and clocks",
-        [*package("policy", "_host", "provider"), *tests("provider", "worked_examples"), FORMATS],
+        [*package("policy", "_host", "provider"), *tests("provider", "worked_examples"), FORMATS, STORED],
         tests("provider", "test_policies", "test_clocks"),
         library=True,
     ),
@@ -321,7 +322,7 @@ SHARED_BY_SERVICES = [
 SERVICE = [
     Part(
         f"the service: {name}",
-        ["examples/service/**", *SHARED_BY_SERVICES, *package(*modules.split()), *([FORMATS] if name == "signers" else [])],
+        ["examples/service/**", *SHARED_BY_SERVICES, *package(*modules.split()), *([LINES] if name == "signers" else [])],
         [f"examples/tests/test_service_{name}.py"],
         library=True,
         alone=name in ("operation", "load", "denial"),
@@ -368,7 +369,7 @@ LANGUAGES = [
         ["embed/tests/test_side_in_go.py"],
         library=True,
     ),
-    Part("the client in Go", ["embed/go/client/**", FORMATS], ["embed/tests/test_client_in_go.py"], library=True),
+    Part("the client in Go", ["embed/go/client/**", FORMATS, STORED], ["embed/tests/test_client_in_go.py"], library=True),
     Part("the client in Java", [*OF_JAVA, "embed/go/testdata/*"], ["embed/tests/test_client_in_java.py"], library=True),
     Part(
         "the client in C for ARM",
@@ -396,7 +397,7 @@ LANGUAGES = [
             "embed/c/guard_stack.c",
             "embed/c/painted.h",
             "cases/second/guard.py",
-            FORMATS,
+            STORED,
         ],
         ["embed/tests/test_guard_calls.py"],
         library=True,
@@ -436,6 +437,7 @@ LANGUAGES = [
             "cases/client/*",
             "web/tests/proofs.json",
             FORMATS,
+            STORED,
         ],
         [
             f"web/tests/{it}.test.mjs"

@@ -151,7 +151,7 @@ export interface Alarm {
   readonly seen: "changed" | "absent" | "missing";
 }
 
-/** What a client reports of the watched name (docs/FORMATS.md), and the first and the last epoch that it is about: 0n if it is "unwatched". */
+/** What a client reports of the watched name (docs/STORED.md), and the first and the last epoch that it is about: 0n if it is "unwatched". */
 export interface Report {
   readonly what: "changed" | "missing" | "lost" | "unwatched" | "unconfirmed" | "good";
   readonly first: bigint;

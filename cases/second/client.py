@@ -1,4 +1,4 @@
-"""A client of a directory, from docs/FORMATS.md: what it is fed, what it looks up, what it sees of its own name and reports of it, which
+"""A client of a directory, from docs/FORMATS.md and docs/STORED.md: what it is fed, what it looks up, what it sees of its own name and reports of it, which
 epochs its auditors confirm, and its state."""
 
 from __future__ import annotations

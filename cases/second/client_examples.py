@@ -1,4 +1,5 @@
-"""The examples of docs/FORMATS.md: a reply, a history and clients' states of a small directory, under the keys of its policy."""
+"""The examples of docs/FORMATS.md and docs/STORED.md: a reply, a history and clients' states of a small directory, under the keys of
+its policy."""
 
 from __future__ import annotations
 

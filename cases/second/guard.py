@@ -1,4 +1,4 @@
-"""The record of a guard, and its steps, as docs/FORMATS.md has them ("The guard's record")."""
+"""The record of a guard, and its steps, as docs/STORED.md has them ("The guard's record")."""
 
 from __future__ import annotations
 

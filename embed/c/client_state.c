@@ -1,4 +1,4 @@
-/* The state of a client: what is kept, as bytes. docs/FORMATS.md defines them. */
+/* The state of a client: what is kept, as bytes. docs/STORED.md defines them. */
 #include "client_parts.h"
 
 uint32_t coniks_client_state(const coniks_client *client, uint8_t *state, size_t room, size_t *length)

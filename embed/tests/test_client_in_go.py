@@ -55,8 +55,9 @@ def test_example(here: Path, tmp_path: Path) -> None:
     program, data = tmp_path / "go_client_example", here / "go/testdata"
     go(here, "build", "-o", str(program), "./example")
     wanted = json.loads((data / "messages.json").read_text("utf-8"))
-    page = "".join((TOP / "docs/FORMATS.md").read_text("utf-8").split())
-    assert all(wanted[it] in page for it in ("reply", "history", "state")), "messages.json has the examples of docs/FORMATS.md"
+    formats, stored = ("".join(it.read_text("utf-8").split()) for it in (TOP / "docs/FORMATS.md", TOP / "docs/STORED.md"))
+    assert wanted["reply"] in formats and wanted["history"] in formats, "messages.json has the examples of docs/FORMATS.md"
+    assert wanted["state"] in stored, "messages.json has the example of docs/STORED.md"
     vectors = (TOP / "examples/provider/vectors.json", here / "go/client/testdata/vectors.json")
     assert vectors[0].read_bytes() == vectors[1].read_bytes()
     files = {it: tmp_path / f"{it}.bytes" for it in ("catch-up", "later", "reply", "other")}

@@ -1,4 +1,4 @@
-"""States of version 03 in C: each is built here from the table of docs/FORMATS.md, and compared byte by byte."""
+"""States of version 03 in C: each is built here from the table of docs/STORED.md, and compared byte by byte."""
 
 from __future__ import annotations
 

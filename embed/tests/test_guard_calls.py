@@ -141,8 +141,8 @@ def test_room() -> None:
 
 
 def numbers() -> list[int]:
-    """The numbers of the guard's record in docs/FORMATS.md."""
-    text = (TOP / "docs/FORMATS.md").read_text("utf-8").partition("\n## The guard's record\n")[2].partition("\n## ")[0]
+    """The numbers of the guard's record in docs/STORED.md."""
+    text = (TOP / "docs/STORED.md").read_text("utf-8").partition("\n## The guard's record\n")[2].partition("\n## ")[0]
     return [int(it) for it in re.findall(r"^\| (\d+) \|", text, re.M)]
 
 

@@ -1,4 +1,4 @@
-"""Keys in other processes, such as one in front of an HSM. docs/FORMATS.md ("Keys in other processes") defines what is asked of them."""
+"""Keys in other processes, such as one in front of an HSM. docs/LINES.md ("Keys in other processes") defines what is asked of them."""
 
 from __future__ import annotations
 

@@ -266,8 +266,8 @@ def asked(path: Path, line: str) -> str:
 
 
 def test_examples(signer: Signer) -> None:
-    """The lines of docs/FORMATS.md, and requests that no process may grant."""
-    section = (TOP / "docs/FORMATS.md").read_text("utf-8").partition("\n## Keys in other processes\n")[2].partition("\n## ")[0]
+    """The lines of docs/LINES.md, and requests that no process may grant."""
+    section = (TOP / "docs/LINES.md").read_text("utf-8").partition("\n## Keys in other processes\n")[2].partition("\n## ")[0]
     lines = re.findall(r"^    (\{.*\})$", section, re.M)
     pairs = [it for it in zip(lines[::2], lines[1::2]) if signer.path.name.startswith("python") or "sign" in it[0]]
     assert len(pairs) in (2, 4) and '"cmd":"sign"' in lines[2]

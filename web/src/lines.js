@@ -1,4 +1,4 @@
-// What `keydir run` printed, read into bytes. A line is refused here only where it is no line of this kind; docs/FORMATS.md
+// What `keydir run` printed, read into bytes. A line is refused here only where it is no line of this kind; docs/LINES.md
 // has the members and the order in which they are read.
 
 import { bigEndian, fromBase64, fromHex, joined } from "./bytes.js";

@@ -1,5 +1,5 @@
 // Tests of what callers, services and platforms can do wrong to the client: `node --test web/tests/client_arguments.test.mjs`. Policy,
-// reply, history and state are the examples of docs/FORMATS.md.
+// reply, history and state are the examples of docs/FORMATS.md and docs/STORED.md.
 
 import assert from "node:assert/strict";
 import { createHash } from "node:crypto";
@@ -14,10 +14,11 @@ import { data, hex, read, same, textBytes, throwing, thrown } from "../telling.m
 const module = readFileSync(new URL("../out/coniks.wasm", import.meta.url));
 const library = await load(module);
 const formats = read("docs/FORMATS.md");
+const stored = read("docs/STORED.md");
 
-/** The lines of the example after a text. @param {string} after */
-function example(after) {
-  const lines = formats.slice(formats.indexOf(after)).split("\n");
+/** The lines of the example after a text of a page. @param {string} after @param {string} page */
+function example(after, page = formats) {
+  const lines = page.slice(page.indexOf(after)).split("\n");
   const first = lines.findIndex((it) => it.startsWith("    "));
   const length = lines.slice(first).findIndex((it) => !it.startsWith("    "));
   return lines.slice(first, first + length).map((it) => it.trim());
@@ -26,7 +27,7 @@ function example(after) {
 const policy = readPolicy(textBytes(`${example("The keys of this example are").join("\n")}\n`));
 const reply = data(example("The reply for alice at epoch 2").join(""));
 const history = data(example("The history of alice at epochs 1 and 2").join(""));
-const state = data(example("The state of a client without a trust document that watches alice").join(""));
+const state = data(example("The state of a client without a trust document that watches alice", stored).join(""));
 const entries = [state.slice(37, 246), state.slice(255, 464)];
 const start = Number(policy.epochStart);
 const clock = () => start + 3600 + 60;
@@ -52,7 +53,7 @@ function renewed(...parts) {
   return Buffer.concat([whole, createHash("sha256").update(whole).digest()]);
 }
 
-test("the examples of docs/FORMATS.md", async () => {
+test("the examples of docs/FORMATS.md and docs/STORED.md", async () => {
   same("the digest of the policy", policy.digest, "9b7c1ee453e0628965915c3a88e82924b3e90fe53ba30531b2b3ff12be6f7fef");
   const parts = { origin: policy.origin, start: policy.epochStart, period: policy.epochPeriod, kept: policy.proofsKept, records: policy.recordsVouched };
   same("its parts", parts, { origin: "keys.example.com/directory", start: 1767225600, period: 3600, kept: null, records: false });
@@ -77,7 +78,7 @@ test("the examples of docs/FORMATS.md", async () => {
   expecting.expect(textBytes("n"), 5);
   await assert.rejects(async () => expecting.expect(textBytes("o"), 9), /another change is expected by epoch 5:/);
   const changed = expecting.state;
-  same("a change and the digest in the state", changed.subarray(513), data(example("Then it expects the key `n` by epoch 5").join("")));
+  same("a change and the digest in the state", changed.subarray(513), data(example("Then it expects the key `n` by epoch 5", stored).join("")));
   same("the state with a change once more", (await begun({ state: changed })).state, changed);
 });
 
@@ -119,7 +120,7 @@ test("documents that are no policy", async () => {
 });
 
 test("numbers", async () => {
-  const listed = [...formats.slice(formats.indexOf("## Replies to clients")).matchAll(/^\| `(\w+)` \| (\d+) \|/gm)];
+  const listed = [...`${formats.slice(formats.indexOf("## Replies to clients"))}${stored}`.matchAll(/^\| `(\w+)` \| (\d+) \|/gm)];
   const pairs = [...formats.matchAll(/^\| `(\w+)`, `(\w+)` \| (\d+), (\d+) \|/gm)];
   for (const [, one, other, first, second] of pairs) listed.push([, one, first], [, other, second]);
   same("errors are listed", [listed.length > 20, pairs.length > 0], [true, true]);
@@ -305,7 +306,7 @@ test("what claims to be long", async () => {
   await throwing("an entry twice", () => begun({ state: wide }), "StateForm");
 });
 
-/** The first of several errors of a state, in the order of docs/FORMATS.md. */
+/** The first of several errors of a state, in the order of docs/STORED.md. */
 test("the first of several errors of a state", async () => {
   const [other, version, policyOf] = [data("02"), state.subarray(0, 1), state.subarray(1, 33)];
   const count = data("ffffffff");

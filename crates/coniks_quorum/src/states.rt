@@ -1,4 +1,4 @@
-//! The state of a client of a key directory as bytes: docs/FORMATS.md, "A client's state", version 03.
+//! The state of a client of a key directory as bytes: docs/STORED.md, "A client's state", version 03.
 //!
 //! A state is written into a slice of the caller, and the parts of one that is read are borrowed from its bytes.
 //!

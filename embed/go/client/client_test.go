@@ -56,7 +56,7 @@ func TestExamplesOfFormats(t *testing.T) {
 	}
 }
 
-// The state of docs/FORMATS.md with an alarm and marks, and what becomes of both.
+// The state of docs/STORED.md with an alarm and marks, and what becomes of both.
 func TestAuditorsOfFormats(t *testing.T) {
 	var now time.Time
 	wanted, settings := readExamples(t, &now)

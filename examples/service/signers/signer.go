@@ -1,4 +1,4 @@
-// Signs for `serve --signer SOCKET`, by a key in a file. docs/FORMATS.md ("Keys in other processes") defines the lines. Replace sign by a
+// Signs for `serve --signer SOCKET`, by a key in a file. docs/LINES.md ("Keys in other processes") defines the lines. Replace sign by a
 // call of your HSM.
 //
 //	go run signer.go SOCKET SIGNING_KEY

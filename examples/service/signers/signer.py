@@ -1,5 +1,5 @@
 #!/usr/bin/python3
-"""Signs and makes VRF proofs for `serve --signer SOCKET --prover SOCKET`, by keys in files. docs/FORMATS.md ("Keys in other processes")
+"""Signs and makes VRF proofs for `serve --signer SOCKET --prover SOCKET`, by keys in files. docs/LINES.md ("Keys in other processes")
 defines the lines. Replace the two functions by calls of your HSM.
 
     signer.py SOCKET SIGNING_KEY VRF_KEY

@@ -1,4 +1,4 @@
-"""The record of a guard, and the binding of include/coniks_guard.h, whose steps change it. That header and docs/FORMATS.md say what each
+"""The record of a guard, and the binding of include/coniks_guard.h, whose steps change it. That header and docs/STORED.md say what each
 step does. The proved library decides it, and nothing is decided here."""
 
 from __future__ import annotations
@@ -92,7 +92,7 @@ class _Memory:
 @dataclass(frozen=True)
 class Record:
     """The last entry signed, the body that is open, each empty if there is none, and the bodies that are abandoned, after that entry
-    or after the one before it. docs/FORMATS.md defines its text."""
+    or after the one before it. docs/STORED.md defines its text."""
 
     signed: bytes = b""
     asked: bytes = b""

@@ -1,4 +1,4 @@
-"""The lines of the program `provider`: what is asked, and what it answers. docs/FORMATS.md defines them."""
+"""The lines of the program `provider`: what is asked, and what it answers. docs/LINES.md defines them."""
 
 from __future__ import annotations
 

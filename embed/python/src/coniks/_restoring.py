@@ -31,7 +31,7 @@ _PARTS = ("snapshot", "entries", "replaced")
 
 
 class _Wrong(ProviderError):
-    """A line isn't as docs/FORMATS.md defines it."""
+    """A line isn't as docs/STORED.md defines it."""
 
 
 def link_of(entry: bytes) -> bytes:

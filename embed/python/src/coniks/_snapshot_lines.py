@@ -1,4 +1,4 @@
-"""The lines of a snapshot. docs/FORMATS.md defines them."""
+"""The lines of a snapshot. docs/STORED.md defines them."""
 
 from __future__ import annotations
 

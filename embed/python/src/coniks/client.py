@@ -92,7 +92,7 @@ class Comparison(enum.Enum):
 
 
 class Reported(enum.Enum):
-    """What a client reports of the watched name: the first of these that applies, as docs/FORMATS.md has them."""
+    """What a client reports of the watched name: the first of these that applies, as docs/STORED.md has them."""
 
     CHANGED = "changed"
     MISSING = "missing"

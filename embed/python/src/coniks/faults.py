@@ -241,7 +241,7 @@ class RecordBehind(SignerFailed):
 
 
 class ProgramFailed(ProviderError):
-    """The program ended, took longer than the timeout, or printed what docs/FORMATS.md doesn't define. It is started again and
+    """The program ended, took longer than the timeout, or printed what docs/LINES.md doesn't define. It is started again and
     replays the log by itself."""
 
 

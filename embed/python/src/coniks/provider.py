@@ -42,7 +42,7 @@ same body again, and so does `commit` under a later epoch number before its own 
 
 With `coniks.postgres.PostgresLog` several machines share a log, and a `coniks.replica.Replica` follows it.
 
-Each error is a `ProviderError`. A `Fault` is the program's, one class for each of docs/FORMATS.md, and changes nothing. After
+Each error is a `ProviderError`. A `Fault` is the program's, one class for each of docs/LINES.md, and changes nothing. After
 `LogFailed` or `Overtaken` the log may have a line that the child hasn't, or the other way round: `commit` and `retry` raise
 `RestartNeeded` until `restart` returns. `LogRefused` is a `LogFailed` that leaves nothing open. Lookups go on in each case, at
 the latest epoch that the log is known to have. A child that ends is started again without a call. So they do after `ChildrenDiffer`,

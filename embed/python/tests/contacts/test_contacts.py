@@ -803,7 +803,7 @@ def test_missing_epochs(person: Person, directory: Directory) -> None:
 
 
 def test_lost_epochs(tmp_path: Path, capsys: pytest.CaptureFixture[str], clock: Clock) -> None:
-    """Epochs whose proofs are no longer promised are told by the sentence of docs/FORMATS.md."""
+    """Epochs whose proofs are no longer promised are told by the sentence of docs/STORED.md."""
     text = client_world.policy_text(kept=7200)
     it = Person(tmp_path, capsys, text)
     with Directory(policy=text) as directory:

@@ -26,7 +26,7 @@ PLACES = {name: place for place, name in enumerate(sorted(AUDITORS, key=lambda i
 
 @dataclass(frozen=True)
 class Kept:
-    """What a state of a client has, by the table of docs/FORMATS.md: kept epochs, alarms, the digest of a trust document, and marks."""
+    """What a state of a client has, by the table of docs/STORED.md: kept epochs, alarms, the digest of a trust document, and marks."""
 
     epochs: list[int]
     alarms: list[tuple[int, int]]

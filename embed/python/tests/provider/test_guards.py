@@ -280,7 +280,7 @@ def damaged(text: str) -> Iterator[tuple[str, str]]:
 
 
 def test_texts(room: str) -> None:
-    """The worked example of docs/FORMATS.md, and texts that are no record."""
+    """The worked example of docs/STORED.md, and texts that are no record."""
     bench, text = Bench(room), worked_example("The guard's record")
     bench.path.write_text(text)
     signed, asked, abandoned = (bytes.fromhex(it.split()[1]) for it in text.splitlines()[1:])

@@ -30,7 +30,7 @@ START, PERIOD = 1767225600, 3600
 
 
 def wrong(lines: Sequence[bytes], chain: Sequence[bytes], names: int, position: int) -> str:
-    """What isn't as docs/FORMATS.md defines the lines of a snapshot; empty if all is."""
+    """What isn't as docs/STORED.md defines the lines of a snapshot; empty if all is."""
     said = [json.loads(it) for it in lines]
     header, last = said[0], said[-1]
     if header.items() < {"snapshot": 1, "position": position, "epochs": len(chain), "names": names, "log": 2}.items():

@@ -104,7 +104,7 @@ def test_each_fault_has_a_class() -> None:
 
 @pytest.mark.parametrize("name", FAULTS)
 def test_named_fault(tmp_path: Path, name: str) -> None:
-    """A fault of docs/FORMATS.md, as a program prints it."""
+    """A fault of docs/LINES.md, as a program prints it."""
     members = FAULTS[name]
     told = json.dumps({"fault": PRINTED.get(name, name)} | members)
     with Provider(Settings(faked(tmp_path, [OPEN, told, told]), index, POLICY), Salted().sign, OneLine()) as it:
