@@ -551,7 +551,11 @@ REST = [
     ),
     Part(
         "the README and the guide",
-        ["README.md", "docs/GUIDE.md", ".gitignore", "examples/provider/*", "examples/*.*", "examples/tests/checkouts.py"],
+        [
+            *("README.md", "docs/GUIDE.md", ".gitignore", "examples/*.*", "examples/tests/checkouts.py"),
+            *("examples/provider/*", "examples/service/*"),
+            *package("audit", "contacts"),
+        ],
         ["examples/tests/test_readme.py"],
         library=True,
     ),

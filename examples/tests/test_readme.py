@@ -1,15 +1,17 @@
-"""Runs the commands of the README unchanged, in a copy of what git knows, over programs that are built already, and the first code of
+"""Runs the commands of the README, in a copy of what git knows, over programs that are built already, and the first code of
 docs/GUIDE.md.
 
-Each `sh` and `python` block is run, and each code span that begins with `./`. The `text` block after a block is its output, in
-which `..` matches any text, and a line `..` any lines. A block without one must end with status 0. Commands that prove
+Each `sh` block is run, on other ports, and each code span that begins with `./`. The `text` block after a block is its output, in
+which `..` matches any text, and a line `..` any lines. A command or a block without one must end with status 0. Commands that prove
 are not run.
 """
 
 from __future__ import annotations
 
+import json
 import re
 import shutil
+import socket
 import subprocess
 import sys
 import tempfile
@@ -27,7 +29,10 @@ BLOCK = re.compile(r"^```(\w+)\n(.*?)^```$", re.M | re.S)
 SPAN = re.compile(r"`(\./[^`]+)`")
 
 # They prove, compile for a minute, or are what runs this script.
-NOT_RUN = ["./gate", "./keydir --unproved run < examples/first.jsonl"]
+NOT_RUN = ["./gate", "./keydir --unproved"]
+
+# The ports of the directory and of the auditors, each with the text that has it.
+PORTS = ["127.0.0.1:8080", "127.0.0.1:8081", "127.0.0.1:8082"]
 
 # The code of docs/GUIDE.md is indented. These sections make a directory and open it, with the code of GIVEN before them.
 INDENTED = re.compile(r"(?:^    .*\n|^\n(?=    ))+", re.M)
@@ -43,27 +48,16 @@ def publish(document): pass
 """
 NEXT_EPOCH = "time.time = lambda: now() + 3600\n"
 
-# The tool of scripts/tools.py that a block needs, by a text in the block.
-NEEDS = {"import ecvrf": "PyNaCl", "examples/provider/run": "PyNaCl", "embed/build": "a C compiler", "coniks.guard": "a C compiler"}
-
 
 class Block(NamedTuple):
-    """A block of the README, and its output if that is shown."""
+    """A block of the README, and its output."""
 
-    language: str
     text: str
-    output: Optional[str]
+    output: str
 
 
-def blocks() -> Iterator[Block]:
-    """The blocks that are run."""
-    found = BLOCK.findall(README)
-    for (language, text), (kind, output) in zip(found, [*found[1:], ("", "")]):
-        if language in ["sh", "python"]:
-            yield Block(language, text, output if kind == "text" else None)
-
-
-BLOCKS = [*blocks()]
+FOUND = BLOCK.findall(README)
+BLOCKS = [Block(text, FOUND[it + 1][1]) for it, (language, text) in enumerate(FOUND) if language == "sh"]
 
 
 def pattern_of(text: str) -> str:
@@ -78,10 +72,10 @@ def run(room: Path, language: str, text: str) -> subprocess.CompletedProcess[str
 
 
 def check(room: Path, language: str, text: str, output: Optional[str]) -> None:
-    """Runs a block. Its output is compared if the README shows it; else its status must be 0."""
+    """Runs commands. Their output is compared if it is given. The status must be 0."""
     ran = run(room, language, text)
-    is_well = ran.returncode == 0 if output is None else re.fullmatch(pattern_of(output), ran.stdout)
-    assert is_well, f"status {ran.returncode}\n{ran.stdout[-2000:]}{ran.stderr[-2000:]}"
+    is_well = output is None or re.fullmatch(pattern_of(output), ran.stdout)
+    assert is_well and ran.returncode == 0, f"status {ran.returncode}\n{ran.stdout[-2000:]}{ran.stderr[-2000:]}"
 
 
 @pytest.fixture(scope="module")
@@ -107,17 +101,40 @@ def first_line(block: Block) -> str:
     return block.text.splitlines()[0]
 
 
-@pytest.mark.parametrize("block", BLOCKS, ids=map(first_line, BLOCKS))
-def test_block(room: Path, block: Block) -> None:
-    for part, tool in NEEDS.items():
-        if part in block.text and not tools.has(tool):
-            pytest.skip(f"{tool} is missing")
-    if "embed/build" in block.text or "coniks.guard" in block.text:
-        needs_archive(room)
-    check(room, block.language, block.text, block.output)
-    if block.language == "python":
-        again = run(room, block.language, block.text)
-        assert again.returncode != 0 and "coniks.guard.BodyRefused" in again.stderr, "a second run raises BodyRefused"
+def free() -> str:
+    """An address with a port that is free now."""
+    with socket.socket() as it:
+        it.bind(("127.0.0.1", 0))
+        return f"127.0.0.1:{it.getsockname()[1]}"
+
+
+def with_other_ports(text: str) -> str:
+    """The block with ports that are free, and which ends what it has started."""
+    directory, *auditors = (free() for _ in PORTS)
+    assert text.count(PORTS[0]) == 1 and "--listen 127.0.0.1:808$n" in text and "--tokens tokens 2>" in text
+    text = text.replace("--tokens tokens 2>", f"--tokens tokens --listen {directory} 2>").replace(PORTS[0], directory)
+    text = text.replace("--listen 127.0.0.1:808$n", f"--listen $(cut -d ' ' -f $n <<< '{' '.join(auditors)}')")
+    for port, other in zip(PORTS[1:], auditors):
+        assert text.count(port) == 1
+        text = text.replace(port, other)
+    return f"set -e\ntrap 'kill $(jobs -p)' EXIT\n{text}"
+
+
+@pytest.mark.parametrize("block", BLOCKS, ids=[it.text.splitlines()[0] for it in BLOCKS])
+def test_block(packages: None, room: Path, block: Block) -> None:
+    """The first screen makes a directory that runs, two auditors that cosign one head, and a client that relies on both."""
+    if not tools.has("a C compiler"):
+        pytest.skip("a C compiler is missing")
+    needs_archive(room)
+    check(room, "sh", with_other_ports(block.text), block.output)
+    made = room / "directory"
+    assert len([it for it in (made / "names.log").read_text("utf-8").splitlines() if '"cmd":"install"' in it]) >= 2
+    notes = [(made / f"audit{n}/note").read_text("utf-8").split("\n\n") for n in (1, 2)]
+    assert all(f"audit{n}.example.org" in cosigned for n, (_, cosigned) in enumerate(notes, 1))
+    assert len({text.splitlines()[0] for text, _ in notes}) == 1, "both are of one directory and policy"
+    assert not [it for n in (1, 2) if (it := made / f"audit{n}/alarm").exists()]
+    told = [json.loads(it) for it in (made / "service.log").read_text("utf-8").splitlines()]
+    assert "serving" in [it["event"] for it in told]
 
 
 @pytest.mark.parametrize("span", [it for it in SPAN.findall(README) if it not in NOT_RUN])
@@ -145,6 +162,8 @@ def test_guide(room: Path) -> None:
     )
     ran = run(room, "python", text)
     assert ran.returncode == 0 and ran.stdout == "True\n", ran.stdout + ran.stderr[-2000:]
+    again = run(room, "python", "".join([GIVEN, *before]))
+    assert again.returncode != 0 and "coniks.guard.BodyRefused" in again.stderr, "a directory is made once"
 
 
 def test_leaves_nothing(room: Path) -> None:
@@ -153,8 +172,11 @@ def test_leaves_nothing(room: Path) -> None:
     assert left.stdout == "", left.stdout
 
 
-def test_there_are_blocks() -> None:
-    assert len(BLOCKS) > 3
+def test_first_screen() -> None:
+    """The first block is the first screen: what it says is a directory, auditors and a client."""
+    assert len(BLOCKS) == 1 and FOUND[1][0] == "text" and README.index(BLOCKS[0].text) < 1500
+    assert all(it in BLOCKS[0].text for it in ("serve run", "coniks-audit", "coniks-client lookup"))
+    assert len(README.split()) <= 900
 
 
 def test_toolchain() -> None:
