@@ -17,7 +17,8 @@ import pytest
 from running import EMBED, SHARED, TOP, Say, compiled, run
 
 from coniks import _Bytes145, _guarding
-from coniks._guarding import Bytes64, Record, Refusal, Said, StepRefused
+from coniks._formats import GuardRefusal as Refusal
+from coniks._guarding import Bytes64, Record, Said, StepRefused
 
 CALLS = {"answer", "ask", "sign", "abandon", "adopt"}
 STACK = 8192

@@ -75,7 +75,13 @@ def try_client(count: Count) -> None:
         ("another name", Cause.WRONG_NAME, "dave", 1, reply("dave")),
         ("an absence", Cause.ROOT_MISMATCH, "alice", 1, reply(proof=proof)),
         ("no entry", Cause.CUT_IN_ENTRY, "alice", 1, reply(entry="")[:200]),
-        ("another directory's entry", Cause.EQUIVOCATION, "alice", 1, reply(entry=signed(flipped(entry[: coniks.BODY_LENGTH], 20)).hex())),
+        (
+            "another directory's entry",
+            Cause.EQUIVOCATION,
+            "alice",
+            1,
+            reply(entry=signed(flipped(entry[: coniks.BODY_LENGTH], 20)).hex()),
+        ),
     ]
     for place in range(len(entry)):
         refused.append((f"byte {place} changed", Cause.SIGNATURE, "alice", 1, reply(entry=flipped(entry, place).hex())))
