@@ -30,36 +30,37 @@ pytest.register_assert_rewrite(
 )
 
 
+# The numbers that options set, with their defaults.
+NUMBERS: dict[str, tuple[float, str]] = {
+    "kills": (10, "kills of a provider, and twice as many of a guard"),
+    "honest": (150, "honest runs"),
+    "faults": (9, "faults of a cluster"),
+    "proofs": (5000, "random proofs over the library for C"),
+    "calls": (20_000, "random calls of the library for C"),
+    "alterations": (200, "alterations of a client's cases, and a quarter as many walks"),
+    "epochs": (3, "epochs of all that can happen to a watched name"),
+    "schedules": (100, "random schedules of a hostile service"),
+    "seed": (1, "where the random alterations and walks of clients begin"),
+    "lines": (1000, "random lines, each checked by the page and by the program"),
+    "requests": (40, "random requests of each endpoint of examples/service"),
+    "load": (0.0, "seconds of the whole load on examples/service (default: a short one)"),
+    "lookups": (1000, "lookups a second of the whole load"),
+    "readers": (2, "processes that look names up in it"),
+    "replicas": (0, "replicas that they ask, in place of the writer"),
+    "days": (6, "days of the year of examples/service"),
+    "points": (500, "random VRF proofs and as many signatures in JavaScript"),
+}
+
+
 def pytest_addoption(parser: pytest.Parser) -> None:
     group = parser.getgroup("coniks", "the tests of coniks")
     for name in ["keydir", "provider"]:
         group.addoption(f"--{name}", metavar="FILE", help=f"the program `{name}` (default: the proved one, else the unproved one)")
-    group.addoption("--kills", type=int, default=10, metavar="N", help="kills of a provider, and twice as many of a guard")
-    group.addoption("--honest", type=int, default=150, metavar="N", help="honest runs")
-    group.addoption("--faults", type=int, default=9, metavar="N", help="faults of a cluster")
-    group.addoption("--proofs", type=int, default=5000, metavar="N", help="random proofs over the library for C")
-    group.addoption("--calls", type=int, default=20_000, metavar="N", help="random calls of the library for C")
-    group.addoption(
-        "--alterations", type=int, default=200, metavar="N", help="alterations of a client's cases, and a quarter as many walks"
-    )
-    group.addoption("--epochs", type=int, default=3, metavar="N", help="epochs of all that can happen to a watched name")
-    group.addoption("--schedules", type=int, default=100, metavar="N", help="random schedules of a hostile service")
-    group.addoption("--seed", type=int, default=1, metavar="N", help="where the random alterations and walks of clients begin")
+    for name, (default, what) in NUMBERS.items():
+        group.addoption(f"--{name}", type=type(default), default=default, metavar="N", help=what)
     group.addoption(
         "--client", metavar="COMMAND", help="a client's program that replies to the requests of embed/tests/client_sides.py"
     )
-    group.addoption(
-        "--lines", type=int, default=1000, metavar="N", help="random lines, each checked by the page and by the program"
-    )
-    group.addoption("--requests", type=int, default=40, metavar="N", help="random requests of each endpoint of examples/service")
-    group.addoption(
-        "--load", type=float, default=0, metavar="N", help="seconds of the whole load on examples/service (default: a short one)"
-    )
-    group.addoption("--lookups", type=int, default=1000, metavar="N", help="lookups a second of the whole load")
-    group.addoption("--readers", type=int, default=2, metavar="N", help="processes that look names up in it")
-    group.addoption("--replicas", type=int, default=0, metavar="N", help="replicas that they ask, in place of the writer")
-    group.addoption("--days", type=int, default=6, metavar="N", help="days of the year of examples/service")
-    group.addoption("--points", type=int, default=500, metavar="N", help="random VRF proofs and as many signatures in JavaScript")
 
 
 def pytest_configure(config: pytest.Config) -> None:

@@ -106,6 +106,9 @@ OF_CLIENT_IN_PYTHON = [
     "include/coniks_core.h",
 ]
 OF_CONTACTS = package("contacts", "_person", "_own_names", "_confirming", "_telling", "commands", "trust")
+# What a replica is, and what makes the faults of a cluster.
+REPLICATED = ["replica", "postgres"]
+OF_FAULTS = [*tests("cluster", "cluster_faults"), "examples/cluster/node.py"]
 
 PYTHON = [
     Part(
@@ -204,53 +207,20 @@ PYTHON = [
         tests("provider", "test_interrupts"),
         library=True,
     ),
-    Part(
-        "the log in PostgreSQL",
-        [*package("postgres"), *OF_CLUSTERS],
-        tests("cluster", "test_logs", "test_log_refusals"),
-        library=True,
-        alone=True,
-    ),
-    Part(
-        "ends of its calls",
-        [*package("postgres"), *OF_CLUSTERS],
-        tests("cluster", "test_log_ends"),
-        SHORT,
-        library=True,
-        alone=True,
-    ),
-    Part(
-        "replicas",
-        [*package("replica", "postgres", "_host", "_engine"), *OF_CLUSTERS],
-        tests("cluster", "test_replicas"),
-        library=True,
-        alone=True,
-    ),
-    Part(
-        "snapshots of a cluster",
-        [*package("_postgres_snapshot", "_restoring", "replica", "postgres"), *OF_CLUSTERS],
-        tests("cluster", "test_shared_snapshots"),
-        library=True,
-        alone=True,
-    ),
-    Part(
-        "mistakes in a cluster",
-        [*package("replica", "postgres"), *OF_CLUSTERS],
-        tests("cluster", "test_cluster_mistakes"),
-        library=True,
-        alone=True,
-    ),
-    Part(
-        "faults of a cluster",
-        [*package("replica", "postgres"), *OF_CLUSTERS, *tests("cluster", "cluster_faults"), "examples/cluster/node.py"],
-        tests("cluster", "test_cluster_faults"),
-        ["--faults", "1"],
-        library=True,
-        alone=True,
-    ),
+    *[
+        Part(name, [*package(*names), *OF_CLUSTERS, *more], tests("cluster", *files), options, library=True, alone=True)
+        for name, names, more, files, options in (
+            ("the log in PostgreSQL", ["postgres"], [], ["test_logs", "test_log_refusals"], []),
+            ("ends of its calls", ["postgres"], [], ["test_log_ends"], SHORT),
+            ("replicas", [*REPLICATED, "_host", "_engine"], [], ["test_replicas"], []),
+            ("snapshots of a cluster", ["_postgres_snapshot", "_restoring", *REPLICATED], [], ["test_shared_snapshots"], []),
+            ("mistakes in a cluster", REPLICATED, [], ["test_cluster_mistakes"], []),
+            ("faults of a cluster", REPLICATED, OF_FAULTS, ["test_cluster_faults"], ["--faults", "1"]),
+        )
+    ],
     Part(
         "examples/cluster",
-        ["examples/cluster/*", *package("replica", "postgres")],
+        ["examples/cluster/*", *package(*REPLICATED)],
         tests("cluster", "test_example"),
         library=True,
         alone=True,

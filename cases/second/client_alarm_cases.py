@@ -2,6 +2,7 @@
 
 from __future__ import annotations
 
+from itertools import chain
 from typing import Any, Iterator, Optional
 
 from bytelists import link, number, sha256
@@ -63,15 +64,8 @@ def watched(name: str, steps: list[Answer], *wanted: str, key: str = FIRST_KEY, 
 
 
 def alarms() -> Iterator[Answer]:
-    yield from marks()
-    yield from covers()
-    yield from over_changes()
-    yield from notes()
-    yield from reports()
-    yield from signed_again()
-    yield from again_in_turn()
-    yield from states()
-    yield from marked_states()
+    yield from chain(marks(), covers(), over_changes(), notes(), reports())
+    yield from chain(signed_again(), again_in_turn(), states(), marked_states())
     for what, state, refusal in [*damaged(), *forged(), *broken()]:
         yield made(f"state with alarms: {what}", [], refusal, state=state.hex())
 

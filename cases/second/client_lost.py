@@ -3,6 +3,7 @@
 from __future__ import annotations
 
 from dataclasses import dataclass
+from itertools import chain
 from typing import Any, Iterator, Optional, Sequence
 
 from client import Answer
@@ -62,13 +63,7 @@ def end(following: int) -> int:
 
 
 def lost() -> Iterator[Answer]:
-    yield from times()
-    yield from timeless()
-    yield from numbers()
-    yield from proofs()
-    yield from watches()
-    yield from pruned()
-    yield from resumed()
+    return chain(times(), timeless(), numbers(), proofs(), watches(), pruned(), resumed())
 
 
 def times() -> Iterator[Answer]:

@@ -2,6 +2,7 @@
 
 from __future__ import annotations
 
+import re
 import subprocess
 from pathlib import Path
 from typing import Any, Callable, Union
@@ -42,6 +43,14 @@ def compiled(room: Path, source: Path, *more: str) -> Path:
     ran = run(tools.CC, *WARNED, source, "-o", program, *more, ARCHIVE, *libraries(source))
     assert ran.returncode == 0, ran.stderr.decode()
     return program
+
+
+def stack_of(room: Path, source: Path, say: Say) -> dict[str, int]:
+    """The bytes of stack that a C program prints for each call, which are said too."""
+    said = run(compiled(room, source, "-std=c11", "-O2")).stdout.decode()
+    for line in said.splitlines():
+        say(line)
+    return {name: int(bytes_) for name, bytes_ in re.findall(r"^(\w+): (\d+) bytes", said, re.M)}
 
 
 def sanitizers(room: Path) -> list[str]:

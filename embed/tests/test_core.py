@@ -3,7 +3,6 @@
 from __future__ import annotations
 
 import random
-import re
 from pathlib import Path
 from typing import Iterator
 
@@ -17,7 +16,7 @@ import core_states
 from alarm_walks import AlarmWalk
 from alterations import Alterer
 from case_runner import Answer, cases
-from running import EMBED, Say, compiled, run
+from running import EMBED, Say, stack_of
 from walks import Walk
 
 CASES = [*cases()]
@@ -84,8 +83,5 @@ def test_walks(pytestconfig: pytest.Config, say: Say) -> None:
 
 def test_stack(tmp_path: Path, say: Say) -> None:
     """Each call takes at most 8,192 bytes of stack."""
-    said = run(compiled(tmp_path, EMBED / "c/core_stack.c", "-std=c11", "-O2")).stdout.decode()
-    taken = {name: int(bytes_) for name, bytes_ in re.findall(r"^(\w+): (\d+) bytes", said, re.M)}
-    assert taken.keys() == CALLS and max(taken.values()) <= STACK, said
-    for line in said.splitlines():
-        say(line)
+    taken = stack_of(tmp_path, EMBED / "c/core_stack.c", say)
+    assert taken.keys() == CALLS and max(taken.values()) <= STACK, taken

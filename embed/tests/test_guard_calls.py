@@ -14,7 +14,7 @@ from typing import Any, Callable, Optional
 import guard as second
 import guarded
 import pytest
-from running import EMBED, SHARED, TOP, Say, compiled, run
+from running import EMBED, SHARED, TOP, Say, stack_of
 
 from coniks import _Bytes145, _guarding
 from coniks._formats import GuardRefusal as Refusal
@@ -159,8 +159,5 @@ def test_numbers() -> None:
 
 def test_stack(tmp_path: Path, say: Say) -> None:
     """Each call takes at most 8,192 bytes of stack."""
-    said = run(compiled(tmp_path, EMBED / "c/guard_stack.c", "-std=c11", "-O2")).stdout.decode()
-    taken = {name: int(bytes_) for name, bytes_ in re.findall(r"^(\w+): (\d+) bytes", said, re.M)}
-    assert taken.keys() == CALLS and max(taken.values()) <= STACK, said
-    for line in said.splitlines():
-        say(line)
+    taken = stack_of(tmp_path, EMBED / "c/guard_stack.c", say)
+    assert taken.keys() == CALLS and max(taken.values()) <= STACK, taken

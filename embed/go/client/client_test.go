@@ -263,12 +263,7 @@ func TestDigestAlone(t *testing.T) {
 		t.Error(found, err)
 	}
 	settings.Indices = nil
-	made, err = New(settings)
-	good(t, err)
-	_, err = made.Feed(it.chain)
-	if wants(t, err, OtherPolicy); len(made.Entries()) > 0 {
-		t.Error("an entry of another policy is kept")
-	}
+	keepsNothing(t, settings, it.chain, OtherPolicy)
 }
 
 // Without a VRF key nothing can be looked up.

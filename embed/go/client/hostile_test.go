@@ -301,12 +301,7 @@ func TestSchemes(t *testing.T) {
 	wants(t, err, StateChain)
 	_, err = Vouched(settings, it.entries[1], map[string]coniks.Head{"": it.head(1)}, 1)
 	wants(t, err, Signature)
-	made, err = New(settings)
-	good(t, err)
-	_, err = made.Feed(it.chain)
-	if wants(t, err, Signature); len(made.Entries()) > 0 {
-		t.Error("an entry without a signature is kept")
-	}
+	keepsNothing(t, settings, it.chain, Signature)
 }
 
 // Schemes are given each entry of 209 bytes once, and the proof of a reply.

@@ -73,6 +73,17 @@ func wants(t testing.TB, err error, cause Cause) {
 	}
 }
 
+// keepsNothing checks that a new client refuses a chain for a cause, and keeps no entry of it.
+func keepsNothing(t testing.TB, settings Settings, chain [][]byte, cause Cause) {
+	t.Helper()
+	made, err := New(settings)
+	good(t, err)
+	_, err = made.Feed(chain)
+	if wants(t, err, cause); len(made.Entries()) > 0 {
+		t.Error("a refused entry is kept")
+	}
+}
+
 // misuse checks that an error is one of the caller.
 func misuse(t testing.TB, err error) {
 	t.Helper()

@@ -66,6 +66,15 @@ fn gone_through(history: &[u8]) -> Option<Cause> {
     cause
 }
 
+/// Calls with each text that differs from one in a bit, and with the number of this bit.
+fn flipped(text: &[u8], call: impl Fn(usize, &[u8])) {
+    for bit in 0..8 * text.len() {
+        let mut other = text.to_vec();
+        other[bit / 8] ^= 1 << (bit % 8);
+        call(bit, &other);
+    }
+}
+
 #[test]
 fn a_reply_that_is_cut() {
     let reply = bytes(REPLY);
@@ -112,21 +121,12 @@ fn a_history_that_is_cut_or_changed() {
         let is_whole = size == 83 || size == 138;
         assert_eq!(gone_through(&history[..size]).is_none(), is_whole, "{size} bytes");
     }
-    for bit in 0..8 * history.len() {
-        let mut other = history.clone();
-        other[bit / 8] ^= 1 << (bit % 8);
-        assert!(gone_through(&other).is_some(), "bit {bit}");
-    }
+    flipped(&history, |bit, other| assert!(gone_through(other).is_some(), "bit {bit}"));
 }
 
 #[test]
 fn a_reply_that_is_changed() {
-    let reply = bytes(REPLY);
-    for bit in 0..8 * reply.len() {
-        let mut other = reply.clone();
-        other[bit / 8] ^= 1 << (bit % 8);
-        assert!(looked_up(&other).is_some(), "bit {bit}");
-    }
+    flipped(&bytes(REPLY), |bit, other| assert!(looked_up(other).is_some(), "bit {bit}"));
 }
 
 #[test]
@@ -136,12 +136,10 @@ fn a_state_that_is_cut_or_changed() {
         let wanted = if size < 110 { Cause::StateLength } else { Cause::StateDamaged };
         assert_eq!(resumed(&state[..size]).err(), Some(wanted), "{size} bytes");
     }
-    for bit in 0..8 * state.len() {
-        let mut other = state.clone();
-        other[bit / 8] ^= 1 << (bit % 8);
+    flipped(&state, |bit, other| {
         let wanted = if bit < 8 { Cause::StateVersion } else { Cause::StateDamaged };
-        assert_eq!(resumed(&other).err(), Some(wanted), "bit {bit}");
-    }
+        assert_eq!(resumed(other).err(), Some(wanted), "bit {bit}");
+    });
 }
 
 /// States with their own digests, which Python's hashlib computed.

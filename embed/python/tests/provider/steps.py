@@ -87,8 +87,11 @@ def stopped(error: Union[BaseException, type[BaseException]] = Stop) -> Callable
     return call
 
 
-def hooks() -> Iterator[tuple[str, Callable[[Stage], object], Optional[type[BaseException]], bool]]:
-    """What stops a commit: its name, what sets it up, the error of `commit`, and whether the signer's body is in the log."""
+# What stops a commit: its name, what sets it up, the error of `commit`, and whether the signer's body is in the log.
+Stopper = tuple[str, Callable[[Stage], object], Optional[type[BaseException]], bool]
+
+
+def hooks() -> Iterator[Stopper]:
     no_disk = OSError(errno.ENOSPC, "full")
 
     def before_log(kind: bytes, call: Callable[[Stage], Hook]) -> Callable[[Stage], None]:
@@ -100,26 +103,25 @@ def hooks() -> Iterator[tuple[str, Callable[[Stage], object], Optional[type[Base
     def in_signer(call: Callable[[Stage], Hook]) -> Callable[[Stage], None]:
         return lambda stage: setattr(stage.signer, "before", call(stage))
 
+    def at_line(name: str, is_logged: bool) -> Iterator[Stopper]:
+        kind = name.encode()
+        yield f"an interrupt before `{name}` is logged", before_log(kind, stop), Stop, is_logged
+        yield f"the log fails before `{name}`", before_log(kind, full), LogFailed, is_logged
+        yield f"the log refuses `{name}`", before_log(kind, none), LogRefused, is_logged
+        yield f"an interrupt after `{name}` is logged", after_log(kind, stop), Stop, True
+        yield f"the log fails after `{name}`", after_log(kind, full), LogFailed, True
+        yield f"the child ends as `{name}` is logged", after_log(kind, dead), None, True
+
     stop: Callable[[Stage], Hook] = lambda _: stopped()
     full: Callable[[Stage], Hook] = lambda _: stopped(no_disk)
     none: Callable[[Stage], Hook] = lambda _: stopped(LogRefused("told to refuse"))
     dead: Callable[[Stage], Hook] = lambda stage: stage.kill_child
     yield "the child ends before", lambda stage: stage.kill_child(), None, True
-    yield "an interrupt before `prepare` is logged", before_log(b"prepare", stop), Stop, False
-    yield "the log fails before `prepare`", before_log(b"prepare", full), LogFailed, False
-    yield "the log refuses `prepare`", before_log(b"prepare", none), LogRefused, False
-    yield "an interrupt after `prepare` is logged", after_log(b"prepare", stop), Stop, True
-    yield "the log fails after `prepare`", after_log(b"prepare", full), LogFailed, True
-    yield "the child ends as `prepare` is logged", after_log(b"prepare", dead), None, True
+    yield from at_line("prepare", False)
     yield "an interrupt in the signer", in_signer(stop), Stop, True
     yield "the child ends as the signer is asked", in_signer(dead), None, True
     yield "the signer fails", in_signer(lambda _: stopped(TimeoutError())), SignerFailed, True
-    yield "an interrupt before `install` is logged", before_log(b"install", stop), Stop, True
-    yield "the log fails before `install`", before_log(b"install", full), LogFailed, True
-    yield "the log refuses `install`", before_log(b"install", none), LogRefused, True
-    yield "an interrupt after `install` is logged", after_log(b"install", stop), Stop, True
-    yield "the log fails after `install`", after_log(b"install", full), LogFailed, True
-    yield "the child ends as `install` is logged", after_log(b"install", dead), None, True
+    yield from at_line("install", True)
 
 
 class Stopping(NamedTuple):
