@@ -172,13 +172,18 @@ class Client:
     def at(self, epoch: int) -> Optional[Kept]:
         return next((it for it in self.kept if it.entry.epoch == epoch), None)
 
-    def signed(self, whole: bytes) -> Entry:
-        """An entry that is the signer's, and one of this directory that some chain can have."""
+    def verified(self, whole: bytes) -> Entry:
+        """An entry that is the signer's."""
         if len(whole) != ENTRY:
             raise refused("EntryLength")
         entry = Entry(whole)
         if not curve.is_signed(self.signing, entry.body, entry.signature):
             raise refused("Signature")
+        return entry
+
+    def signed(self, whole: bytes) -> Entry:
+        """An entry that is the signer's, and one of this directory that some chain can have."""
+        entry = self.verified(whole)
         if entry.body[113:] != self.policy.digest:
             raise refused("OtherPolicy", None, self.convict(entry))
         if is_malformed(entry):
@@ -246,12 +251,7 @@ class Client:
         return {"compare": "differs" if is_covered else "unknown"}
 
     def evidence(self, whole: bytes) -> Answer:
-        if len(whole) != ENTRY:
-            raise refused("EntryLength")
-        entry = Entry(whole)
-        if not curve.is_signed(self.signing, entry.body, entry.signature):
-            raise refused("Signature")
-        return {"evidence": self.convict(entry)}
+        return {"evidence": self.convict(self.verified(whole))}
 
     # The auditors.
 

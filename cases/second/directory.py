@@ -44,12 +44,17 @@ def operations(elements: list[Json], kind: Callable[[Json], KindOfOperation]) ->
     return found
 
 
+def wrong_length(name: bytes, key: bytes) -> Optional[str]:
+    """The fault of a name or a key that is empty or too long, or None."""
+    if not 1 <= len(name) <= LONGEST_NAME:
+        return "NameLength"
+    return None if 1 <= len(key) <= LONGEST_KEY else "KeyLength"
+
+
 def fault_of(operation: Operation, earlier: Container[bytes], registered: Container[bytes]) -> Optional[str]:
     """The first fault of an operation after the names of the earlier ones, or None."""
-    if not 1 <= len(operation.name) <= LONGEST_NAME:
-        return "NameLength"
-    if not 1 <= len(operation.key) <= LONGEST_KEY:
-        return "KeyLength"
+    if fault := wrong_length(operation.name, operation.key):
+        return fault
     if operation.name in earlier:
         return "NameTwice"
     if operation.op == "register" and operation.name in registered:

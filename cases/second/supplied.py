@@ -7,9 +7,19 @@ from bisect import bisect_right
 from typing import Container, Iterator, Optional, Union
 
 import members as read
-from bytelists import LONGEST_KEY, LONGEST_NAME, ZEROS, commitment
+from bytelists import ZEROS, commitment
 from chain import Entry, body_after
-from directory import MOST_OPERATIONS, Answer, Lines, Operation, answer_of_entry, answer_of_lookup, end_elsewhere, end_here
+from directory import (
+    MOST_OPERATIONS,
+    Answer,
+    Lines,
+    Operation,
+    answer_of_entry,
+    answer_of_lookup,
+    end_elsewhere,
+    end_here,
+    wrong_length,
+)
 from evidence import is_malformed
 from grown import Node, built, grown, nodes_under, path_to
 from members import Fault, Wrong, array, b64, bytes_in_digits, h32, member, object_in, texts_bytes, whole_number
@@ -74,10 +84,8 @@ class Restore:
 
     @staticmethod
     def fault_of(it: Binding, before: Container[bytes], names: Container[bytes]) -> Optional[str]:
-        if not 1 <= len(it.name) <= LONGEST_NAME:
-            return "NameLength"
-        if not 1 <= len(it.key) <= LONGEST_KEY:
-            return "KeyLength"
+        if fault := wrong_length(it.name, it.key):
+            return fault
         if it.name in names:
             return "NameTwice"
         return "IndexClash" if it.index in before else None
