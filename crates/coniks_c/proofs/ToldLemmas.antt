@@ -1,5 +1,5 @@
 -- What depends on a verification function and an index scheme only where the caller passed their results.
-use Rattle.std.proofs.Common.{◌≡◌, ◌==◌, ◌≤◌, ◌-◌, ◌⊎◌, ℕ, List, Bool, Option, Some, None, length, inl, inr, sym, ap, subst, ◌∙◌, refl, IfSome, take, drop}
+use Rattle.std.proofs.Common.{◌≡◌, ◌==◌, ◌-◌, ℕ, List, Bool, Option, Some, None, length, inl, inr, sym, ap, subst, ◌∙◌, refl, IfSome, drop}
 use Rattle.std.specs.List.{slice_get}
 use Rattle.std.proofs.lemmas.List.{drop-drop}
 use Rattle.coniks_proof.specs.Sha256.{sha256}

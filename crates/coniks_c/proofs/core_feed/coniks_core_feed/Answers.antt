@@ -1,4 +1,4 @@
-use Rattle.std.proofs.Common.{◌≤◌, ℕ, List, arith, length, subst, sym, take}
+use Rattle.std.proofs.Common.{◌≤◌, List, arith, length, subst, sym, take}
 use Rattle.coniks_proof.specs.Sha256.{sha256}
 use Rattle.coniks_client.specs.Kept.{IsChain}
 use Rattle.coniks_client.specs.Owner.{IsWatched}

@@ -1,14 +1,11 @@
-use Rattle.std.proofs.Common.{◌≡◌, ◌∙◌, ℕ, List, Bool, Option, Some, ap, refl, sym, subst}
+use Rattle.std.proofs.Common.{◌≡◌, ◌∙◌, ℕ, Option, ap, refl, sym, subst}
 use Rattle.std.specs.List.{slice_get}
 use Rattle.coniks_proof.specs.Proofs.{said}
 use Rattle.coniks_proof.specs.Sha256.{sha256}
 use Rattle.coniks_client.proofs.Lemmas.{any-watched, shown_of}
-use Rattle.coniks_client.specs.Changes.{wanted}
 use Rattle.coniks_client.specs.Kept.{epoch_in}
 use Rattle.coniks_client.specs.Lookups.{IsFound, IsNotFound}
-use Rattle.coniks_client.specs.Owner.{IsWatched}
 use Rattle.coniks_client.specs.Steps.{Marks, given_changes, given_number}
-use Rattle.coniks_client.specs.declared.kept.Kept.{Kept}
 use Rattle.coniks_client.specs.declared.times.Present.{Present}
 use Rattle.coniks_client.specs.declared.watching.Watch.{Watch}
 use Rattle.coniks_c.specs.CoreTold.{asked_epoch, present_in, watch_in}

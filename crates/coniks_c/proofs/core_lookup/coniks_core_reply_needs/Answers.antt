@@ -1,9 +1,8 @@
 use Rattle.std.proofs.Common.{◌≡◌, ◌⊎◌, ◌∙◌, ℕ, List, ap, drop, length, refl, subst, take}
 use Rattle.std.proofs.lemmas.List.{length-take, take_min}
 use Rattle.coniks_client.specs.Lookups.{IsKept}
-use Rattle.coniks_client.specs.Replies.{after_entry, entry_part, vrf_part}
+use Rattle.coniks_client.specs.Replies.{after_entry}
 use Rattle.coniks_proof.specs.Wire.{short_length}
-use Rattle.coniks_c.specs.CoreTold.{Needs}
 use Rattle.coniks_c.proofs.ToldLemmas.{vrf_start}
 use Rattle.coniks_c.proofs.core_lookup.coniks_core_reply_needs.Goals as goal
 
