@@ -144,7 +144,7 @@ def test_room() -> None:
 def numbers() -> list[int]:
     """The numbers of the guard's record in docs/STORED.md."""
     text = (TOP / "docs/STORED.md").read_text("utf-8").partition("\n## The guard's record\n")[2].partition("\n## ")[0]
-    return [int(it) for it in re.findall(r"^\| (\d+) \|", text, re.M)]
+    return [int(it) for it in re.findall(r"^- (\d+): ", text, re.M)]
 
 
 def test_numbers() -> None:
