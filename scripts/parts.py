@@ -573,6 +573,7 @@ REST = [
     Part(
         "formats.toml",
         [
+            *("docs/FORMATS.md", "docs/LINES.md", "docs/STORED.md"),
             *("formats.toml", "scripts/tables", "crates/coniks_c/*/*", "crates/coniks_programs/*/*", "include/*"),
             *("embed/python/src/coniks/*", "embed/go/*", "embed/go/client/*", "embed/rust/src/**", "embed/java/src/main/**"),
             *("embed/c/client*", "web/src/formats.js", "web/coniks.d.ts"),

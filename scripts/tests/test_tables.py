@@ -3,6 +3,7 @@
 from __future__ import annotations
 
 import re
+import runpy
 import shutil
 import subprocess
 from functools import cache
@@ -11,6 +12,8 @@ from pathlib import Path
 import pytest
 
 TOP = Path(__file__).resolve().parents[2]
+# The files in which single numbers are written.
+IN_PLACE = runpy.run_path(str(TOP / "scripts/tables"))["IN_PLACE"]
 NOTED = re.compile(r"formats\.toml: (?!end)\w+|[Gg]enerated from formats\.toml")
 
 
@@ -29,7 +32,7 @@ def generated() -> list[str]:
 
 @pytest.fixture
 def room(tmp_path: Path) -> Path:
-    for it in [*generated(), "formats.toml", "scripts/tables"]:
+    for it in {*generated(), *IN_PLACE, "formats.toml", "scripts/tables"}:
         (tmp_path / it).parent.mkdir(parents=True, exist_ok=True)
         shutil.copy(TOP / it, tmp_path / it)
     return tmp_path
@@ -85,6 +88,37 @@ def test_a_longer_part(room: Path) -> None:
     assert tables(room)[0] == 0
     assert "CONIKS_ENTRY_BYTES = 259," in (room / "include/coniks.h").read_text("utf-8")
     assert "SIGNATURE = slice(145, 259)" in (room / "embed/python/src/coniks/_formats.py").read_text("utf-8")
+
+
+def test_a_shorter_name(room: Path) -> None:
+    """A limit reaches code, definitions and texts."""
+    replace(room / "formats.toml", "name = { value = 255,", "name = { value = 254,")
+    assert tables(room)[0] == 0
+    for file, line in {
+        "crates/coniks_proof/src/values.rt": "pub const MAX_NAME: usize = 254;\n",
+        "crates/coniks_proof/specs/Limits.antt": "longest_name = 254\n",
+        "crates/coniks_c/specs/Texts.antt": 'codes "the name is empty or longer than 254 bytes"\n',
+        "include/coniks.h": "CONIKS_MAX_NAME = 254, ",
+        "embed/python/src/coniks/_formats.py": "MAX_NAME = 254\n",
+        "docs/LINES.md": "- `NameLength`: the name is empty or longer than 254 bytes\n",
+    }.items():
+        assert line in (room / file).read_text("utf-8"), file
+
+
+@pytest.mark.parametrize("file", IN_PLACE)
+def test_numbers_in_place(room: Path, file: str) -> None:
+    """A number that was edited is found, and a line that is lost is an error."""
+    around = next(iter(IN_PLACE[file]))
+    front, end = around.split("@")
+    text = (room / file).read_text("utf-8")
+    found = re.search(rf"^{re.escape(front)}([\w.]+){re.escape(end)}$", text, re.M)
+    assert found
+    (room / file).write_text(f"{text[: found.start(1)]}7{text[found.end(1) :]}", "utf-8")
+    assert tables(room, "--check") == (1, f"{file} differs from formats.toml: run scripts/tables\n")
+    assert tables(room) == (0, f"{file}\n")
+    assert (room / file).read_text("utf-8") == text
+    (room / file).write_text(text.replace(found[0], ""), "utf-8")
+    assert tables(room) == (1, f"scripts/tables: not one line `{around}`\n")
 
 
 @pytest.mark.parametrize("end", ["formats.toml: end", "formats.toml: statuses"])
