@@ -1,6 +1,6 @@
 //! Where two chains of kept epochs part.
 
-ghost use Rattle.std.specs.Prelude.{◌≡◌, ◌≢◌, ◌<◌, IfNone, IfSome, length, slice_get};
+ghost use Rattle.std.specs.Prelude.{◌<◌, IfNone, IfSome, length};
 ghost use Rattle.coniks_chain.specs.Fork.{HasNoFork};
 ghost use Rattle.coniks_client.specs.Kept.{entries_in};
 ghost use Rattle.coniks_evidence.specs.Forks.{Compares, ForksAt};

@@ -1,7 +1,7 @@
 //! Where two paths to one index part.
 
 ghost use Rattle.std.specs.Prelude.{◌≡◌, ◌≢◌, ◌+◌, ◌<◌, ◌≤◌, ◌⊎◌, ◌↔◌, ◌∷◌, List, drop, length, IfNone, IfSome, IsTrue};
-ghost use Rattle.coniks_proof.specs.Collisions.{IsSized, KeepsOff, Parts, committed};
+ghost use Rattle.coniks_proof.specs.Collisions.{IsSized, KeepsOff, Parts};
 ghost use Rattle.coniks_proof.specs.Hashing.{hashing};
 ghost use Rattle.coniks_proof.specs.ProofRefs.{listed, owned};
 ghost use Rattle.coniks_proof.specs.Proofs.{LengthsFit, answer_of};

@@ -1,6 +1,6 @@
 //! What the owner of a name and somebody who looked it up have kept.
 
-ghost use Rattle.std.specs.Prelude.{◌≡◌, ◌<◌, ◌↔◌, ℕ, suc, IfNone, IfSome, IsTrue, length, slice_get, take};
+ghost use Rattle.std.specs.Prelude.{◌≡◌, ◌<◌, ◌↔◌, suc, IfNone, IfSome, IsTrue, length, take};
 ghost use Rattle.coniks_client.specs.Comparing.{HasHead};
 ghost use Rattle.coniks_evidence.specs.Records.{HasHeadAt, HasNoHead};
 

@@ -1,12 +1,11 @@
 //! What a saved reply shows of a name at an epoch.
 
-ghost use Rattle.std.specs.Prelude.{◌≡◌, ◌≢◌, ◌↔◌, Option, IfErr, IfOk, IsOkAnd, IsTrue};
+ghost use Rattle.std.specs.Prelude.{◌≡◌, ◌↔◌, Option, IfErr, IfOk, IsOkAnd, IsTrue};
 ghost use Rattle.coniks_proof.specs.Octets.{Octets};
 ghost use Rattle.coniks_proof.specs.Proofs.{said};
-ghost use Rattle.coniks_client.specs.Kept.{entry_in};
 ghost use Rattle.coniks_client.specs.Lookups.{Answers, AnswersNone, Shows, ShowsNone};
 ghost use Rattle.coniks_chain.specs.Entries.{entry_from};
-ghost use Rattle.coniks_evidence.specs.Records.{IsAccepted, IsHeld, IsSaved, IsShown, IsShownIn, IsUnaccepted, IsUnheld, IsVerified};
+ghost use Rattle.coniks_evidence.specs.Records.{IsHeld, IsShown, IsShownIn, IsUnaccepted, IsUnheld, IsVerified};
 
 use coniks_chain::{ENTRY_BYTES, Entry};
 use coniks_client::lookups::kept_of;
