@@ -110,6 +110,14 @@ OF_CONTACTS = package("contacts", "_person", "_own_names", "_confirming", "_tell
 REPLICATED = ["replica", "postgres"]
 OF_FAULTS = [*tests("cluster", "cluster_faults"), "examples/cluster/node.py"]
 
+
+def of_cluster(
+    name: str, modules: Sequence[str], files: Sequence[str], options: Sequence[str] = (), more: Sequence[str] = ()
+) -> Part:
+    """A part whose tests need a private PostgreSQL."""
+    return Part(name, [*package(*modules), *OF_CLUSTERS, *more], tests("cluster", *files), options, library=True, alone=True)
+
+
 PYTHON = [
     Part(
         "the guard",
@@ -207,17 +215,12 @@ PYTHON = [
         tests("provider", "test_interrupts"),
         library=True,
     ),
-    *[
-        Part(name, [*package(*names), *OF_CLUSTERS, *more], tests("cluster", *files), options, library=True, alone=True)
-        for name, names, more, files, options in (
-            ("the log in PostgreSQL", ["postgres"], [], ["test_logs", "test_log_refusals"], []),
-            ("ends of its calls", ["postgres"], [], ["test_log_ends"], SHORT),
-            ("replicas", [*REPLICATED, "_host", "_engine"], [], ["test_replicas"], []),
-            ("snapshots of a cluster", ["_postgres_snapshot", "_restoring", *REPLICATED], [], ["test_shared_snapshots"], []),
-            ("mistakes in a cluster", REPLICATED, [], ["test_cluster_mistakes"], []),
-            ("faults of a cluster", REPLICATED, OF_FAULTS, ["test_cluster_faults"], ["--faults", "1"]),
-        )
-    ],
+    of_cluster("the log in PostgreSQL", ["postgres"], ["test_logs", "test_log_refusals"]),
+    of_cluster("ends of its calls", ["postgres"], ["test_log_ends"], SHORT),
+    of_cluster("replicas", [*REPLICATED, "_host", "_engine"], ["test_replicas"]),
+    of_cluster("snapshots of a cluster", ["_postgres_snapshot", "_restoring", *REPLICATED], ["test_shared_snapshots"]),
+    of_cluster("mistakes in a cluster", REPLICATED, ["test_cluster_mistakes"]),
+    of_cluster("faults of a cluster", REPLICATED, ["test_cluster_faults"], ["--faults", "1"], OF_FAULTS),
     Part(
         "examples/cluster",
         ["examples/cluster/*", *package(*REPLICATED)],
