@@ -1,5 +1,5 @@
 -- What the caller of C verified, and what it watches.
-use Rattle.std.specs.Prelude.{◌≡◌, ◌==◌, ◌⊎◌, ℕ, List, Bool, Option, Some, None, Any, IfSome, ◌<◌, ◌≤◌, ◌^◌, if◌then◌else◌, length, max, slice_get}
+use Rattle.std.specs.Prelude.{◌≡◌, ◌==◌, ◌⊎◌, ℕ, List, Option, Some, None, Any, IfSome, ◌<◌, ◌≤◌, ◌^◌, if◌then◌else◌, length, max, slice_get}
 use Rattle.coniks_proof.specs.Octets.{Octets}
 use Rattle.coniks_client.specs.Kept.{epoch_in, latest_epoch}
 use Rattle.coniks_client.specs.Lookups.{IsKept}
@@ -10,7 +10,6 @@ use Rattle.coniks_client.specs.declared.changes.Change.{Change}
 use Rattle.coniks_client.specs.declared.comparing.Comparison.{Comparison}
 use Rattle.coniks_client.specs.declared.comparing.Comparison.TheVariants.{Equal, Differs, Unknown}
 use Rattle.coniks_client.specs.declared.kept.Kept.{Kept}
-use Rattle.coniks_client.specs.declared.times.Clock.{Clock}
 use Rattle.coniks_client.specs.declared.times.Present.{Present}
 use Rattle.coniks_client.specs.declared.watching.Watch.{Watch}
 use Rattle.coniks_c.specs.Checked.{part}

@@ -1,6 +1,6 @@
 //! The watched name of a client, and the changes of its key.
 
-ghost use Rattle.std.specs.Prelude.{◌≡◌, ◌≢◌, ◌⊎◌, ◌↔◌, ◌<◌, ◌≤◌, ◌+◌, ℕ, Any, IsTrue, List, Option, Some, [], length, take};
+ghost use Rattle.std.specs.Prelude.{◌≡◌, ◌≢◌, ◌⊎◌, ◌↔◌, ◌<◌, ◌≤◌, ◌+◌, Any, IsTrue, Option, [], length, take};
 ghost use Rattle.std.proofs.Math.ListN.{set};
 ghost use Rattle.coniks_proof.specs.Octets.{Octets};
 ghost use Rattle.coniks_proof.specs.Sha256.{sha256};

@@ -1,6 +1,6 @@
 //! Two signed entries, compared.
 
-ghost use Rattle.std.specs.Prelude.{◌≡◌, ◌≢◌, ◌⊎◌, ◌+◌, length};
+ghost use Rattle.std.specs.Prelude.{◌≡◌, ◌≢◌, ◌⊎◌, length};
 ghost use Rattle.coniks_chain.specs.Entries.{entry_from};
 ghost use Rattle.coniks_chain.specs.Evidence.{Convicts, IsOfFirstKind};
 ghost use Rattle.coniks_chain.specs.declared.evidence.EvidenceKind.{EvidenceKind};
