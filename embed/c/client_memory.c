@@ -89,7 +89,7 @@ uint64_t client_number_of(const uint8_t *bytes)
 
 uint64_t client_epoch_of(const uint8_t *entry)
 {
-    return client_number_of(entry + 1);
+    return client_number_of(entry + EPOCH_START);
 }
 
 void client_clear(void *bytes, size_t length)

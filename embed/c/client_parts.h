@@ -6,6 +6,9 @@
 
 enum { HASH_BYTES = 32, VRF_PROOF_BYTES = 80 };
 
+/* The place of an entry's epoch. */
+enum { EPOCH_START = 1 };
+
 /* Bytes of the caller, or of the client. */
 struct slice {
     const uint8_t *bytes;
