@@ -27,8 +27,6 @@ MAX_NAME = 255
 MAX_KEY = 16384
 # The most siblings of a proof.
 MAX_SIBLINGS = 256
-# The most operations of a batch.
-MAX_OPERATIONS = 4096
 
 # Statuses that are no errors.
 GOOD = 0
