@@ -20,7 +20,7 @@ Takes-end old mid new bytes buffer n p q zero =
 
 -- what was taken is the front of what was told
 pub taken_front : (input : List ℕ) (old new : Source) (bytes : List ℕ) → old.left ≡ Some input → Takes old bytes new → (rest : List ℕ) × ((new.left ≡ Some rest) × (input ≡ bytes ++ rest))
-taken_front input old new bytes told took = by_left new.left refl (subst (λ (left : Option (List ℕ)). Consumes left new.left bytes) told took) where
+taken_front input old new bytes reported took = by_left new.left refl (subst (λ (left : Option (List ℕ)). Consumes left new.left bytes) reported took) where
   by_left : (left : Option (List ℕ)) → new.left ≡ left → Consumes (Some input) new.left bytes → (rest : List ℕ) × ((new.left ≡ Some rest) × (input ≡ bytes ++ rest))
   by_left None is t = absurd (subst (λ (left : Option (List ℕ)). Consumes (Some input) left bytes) is t)
   by_left (Some rest) is t = (rest, (is, subst (λ (left : Option (List ℕ)). Consumes (Some input) left bytes) is t))

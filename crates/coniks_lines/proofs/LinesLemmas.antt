@@ -6,61 +6,61 @@ use Rattle.std.proofs.lemmas.List.{append-nil, take-append-drop, take_more, leng
 use Rattle.memchr.specs.Find.{IsFirstByte, is_byte}
 use Rattle.coniks_lines.specs.Lines.{whole_after, rest_after}
 
-rest_step : (held xs ys : List ℕ) (x : ℕ) (t : Bool)
+rest_step : (buffered xs ys : List ℕ) (x : ℕ) (t : Bool)
     → rest_after [] (xs ++ ys) ≡ rest_after (rest_after [] xs) ys
-    → rest_after (held ++ x ∷ []) (xs ++ ys) ≡ rest_after (rest_after (held ++ x ∷ []) xs) ys
-    → cond t (rest_after [] (xs ++ ys)) (rest_after (held ++ x ∷ []) (xs ++ ys)) ≡ rest_after (cond t (rest_after [] xs) (rest_after (held ++ x ∷ []) xs)) ys
-rest_step held xs ys x true e f = e
-rest_step held xs ys x false e f = f
+    → rest_after (buffered ++ x ∷ []) (xs ++ ys) ≡ rest_after (rest_after (buffered ++ x ∷ []) xs) ys
+    → cond t (rest_after [] (xs ++ ys)) (rest_after (buffered ++ x ∷ []) (xs ++ ys)) ≡ rest_after (cond t (rest_after [] xs) (rest_after (buffered ++ x ∷ []) xs)) ys
+rest_step buffered xs ys x true e f = e
+rest_step buffered xs ys x false e f = f
 
-pub rest_after-append : (held xs ys : List ℕ) → rest_after held (xs ++ ys) ≡ rest_after (rest_after held xs) ys
-rest_after-append held [] ys = refl
-rest_after-append held (x ∷ xs) ys = rest_step held xs ys x (nat_eq x 10) (rest_after-append [] xs ys) (rest_after-append (held ++ x ∷ []) xs ys)
+pub rest_after-append : (buffered xs ys : List ℕ) → rest_after buffered (xs ++ ys) ≡ rest_after (rest_after buffered xs) ys
+rest_after-append buffered [] ys = refl
+rest_after-append buffered (x ∷ xs) ys = rest_step buffered xs ys x (nat_eq x 10) (rest_after-append [] xs ys) (rest_after-append (buffered ++ x ∷ []) xs ys)
 
-whole_step : (held xs ys : List ℕ) (x : ℕ) (t : Bool)
+whole_step : (buffered xs ys : List ℕ) (x : ℕ) (t : Bool)
     → whole_after [] (xs ++ ys) ≡ whole_after [] xs ++ whole_after (rest_after [] xs) ys
-    → whole_after (held ++ x ∷ []) (xs ++ ys) ≡ whole_after (held ++ x ∷ []) xs ++ whole_after (rest_after (held ++ x ∷ []) xs) ys
-    → cond t (held ∷ whole_after [] (xs ++ ys)) (whole_after (held ++ x ∷ []) (xs ++ ys)) ≡ cond t (held ∷ whole_after [] xs)
-    (whole_after (held ++ x ∷ []) xs) ++ whole_after (cond t (rest_after [] xs) (rest_after (held ++ x ∷ []) xs)) ys
-whole_step held xs ys x true e f = ap (λ (ls : List (List ℕ)). held ∷ ls) e
-whole_step held xs ys x false e f = f
+    → whole_after (buffered ++ x ∷ []) (xs ++ ys) ≡ whole_after (buffered ++ x ∷ []) xs ++ whole_after (rest_after (buffered ++ x ∷ []) xs) ys
+    → cond t (buffered ∷ whole_after [] (xs ++ ys)) (whole_after (buffered ++ x ∷ []) (xs ++ ys)) ≡ cond t (buffered ∷ whole_after [] xs)
+    (whole_after (buffered ++ x ∷ []) xs) ++ whole_after (cond t (rest_after [] xs) (rest_after (buffered ++ x ∷ []) xs)) ys
+whole_step buffered xs ys x true e f = ap (λ (ls : List (List ℕ)). buffered ∷ ls) e
+whole_step buffered xs ys x false e f = f
 
-pub whole_after-append : (held xs ys : List ℕ) → whole_after held (xs ++ ys) ≡ whole_after held xs ++ whole_after (rest_after held xs) ys
-whole_after-append held [] ys = refl
-whole_after-append held (x ∷ xs) ys = whole_step held xs ys x (nat_eq x 10) (whole_after-append [] xs ys) (whole_after-append (held ++ x ∷ []) xs ys)
+pub whole_after-append : (buffered xs ys : List ℕ) → whole_after buffered (xs ++ ys) ≡ whole_after buffered xs ++ whole_after (rest_after buffered xs) ys
+whole_after-append buffered [] ys = refl
+whole_after-append buffered (x ∷ xs) ys = whole_step buffered xs ys x (nat_eq x 10) (whole_after-append [] xs ys) (whole_after-append (buffered ++ x ∷ []) xs ys)
 
 -- no newline stands before this place
 abbrev pub NoNewlineBefore : List ℕ → ℕ → Type 0
 NoNewlineBefore bytes n = (k : ℕ) → k < n → nat_eq (slice_index bytes k) 10 ≡ true → ⊥
 
-no_lines_step : (held bytes : List ℕ) (x : ℕ) (t : Bool) → (t ≡ true → ⊥)
-    → whole_after (held ++ x ∷ []) bytes ≡ [] → rest_after (held ++ x ∷ []) bytes ≡ (held ++ x ∷ []) ++ bytes
-    → (cond t (held ∷ whole_after [] bytes) (whole_after (held ++ x ∷ []) bytes) ≡ []) × (cond t (rest_after [] bytes) (rest_after (held ++ x ∷ []) bytes) ≡ held ++ x ∷ bytes)
-no_lines_step held bytes x true other e f = absurd (other refl)
-no_lines_step held bytes x false other e f = (e, f ∙ append_assoc held (x ∷ []) bytes)
+no_lines_step : (buffered bytes : List ℕ) (x : ℕ) (t : Bool) → (t ≡ true → ⊥)
+    → whole_after (buffered ++ x ∷ []) bytes ≡ [] → rest_after (buffered ++ x ∷ []) bytes ≡ (buffered ++ x ∷ []) ++ bytes
+    → (cond t (buffered ∷ whole_after [] bytes) (whole_after (buffered ++ x ∷ []) bytes) ≡ []) × (cond t (rest_after [] bytes) (rest_after (buffered ++ x ∷ []) bytes) ≡ buffered ++ x ∷ bytes)
+no_lines_step buffered bytes x true other e f = absurd (other refl)
+no_lines_step buffered bytes x false other e f = (e, f ∙ append_assoc buffered (x ∷ []) bytes)
 
--- bytes with no newline end no line, and are held
-pub no_lines : (held bytes : List ℕ) → NoNewlineBefore bytes (length bytes)
-    → (whole_after held bytes ≡ []) × (rest_after held bytes ≡ held ++ bytes)
-no_lines held [] none = (refl, sym (append-nil held))
-no_lines held (x ∷ bytes) none =
-    let later = no_lines (held ++ x ∷ []) bytes (λ k lt. none (suc k) (omega arith)) in
-    no_lines_step held bytes x (nat_eq x 10) (none 0 (omega arith)) later.0 later.1
+-- bytes with no newline end no line, and are buffered
+pub no_lines : (buffered bytes : List ℕ) → NoNewlineBefore bytes (length bytes)
+    → (whole_after buffered bytes ≡ []) × (rest_after buffered bytes ≡ buffered ++ bytes)
+no_lines buffered [] none = (refl, sym (append-nil buffered))
+no_lines buffered (x ∷ bytes) none =
+    let later = no_lines (buffered ++ x ∷ []) bytes (λ k lt. none (suc k) (omega arith)) in
+    no_lines_step buffered bytes x (nat_eq x 10) (none 0 (omega arith)) later.0 later.1
 
 -- bytes up to a newline end one line
-pub line_ended : (held xs ys : List ℕ) → NoNewlineBefore xs (length xs)
-    → (whole_after held (xs ++ 10 ∷ ys) ≡ (held ++ xs) ∷ whole_after [] ys) × (rest_after held (xs ++ 10 ∷ ys) ≡ rest_after [] ys)
-line_ended held xs ys none =
-    let before = no_lines held xs none in
-    let lines : whole_after held xs ++ (rest_after held xs ∷ whole_after [] ys) ≡ (held ++ xs) ∷ whole_after [] ys =
-    ap (λ (ls : List (List ℕ)). ls ++ (rest_after held xs ∷ whole_after [] ys)) before.0 ∙ ap (λ (l : List ℕ). l ∷ whole_after [] ys) before.1 in
-    (whole_after-append held xs (10 ∷ ys) ∙ lines, rest_after-append held xs (10 ∷ ys))
+pub line_ended : (buffered xs ys : List ℕ) → NoNewlineBefore xs (length xs)
+    → (whole_after buffered (xs ++ 10 ∷ ys) ≡ (buffered ++ xs) ∷ whole_after [] ys) × (rest_after buffered (xs ++ 10 ∷ ys) ≡ rest_after [] ys)
+line_ended buffered xs ys none =
+    let before = no_lines buffered xs none in
+    let lines : whole_after buffered xs ++ (rest_after buffered xs ∷ whole_after [] ys) ≡ (buffered ++ xs) ∷ whole_after [] ys =
+    ap (λ (ls : List (List ℕ)). ls ++ (rest_after buffered xs ∷ whole_after [] ys)) before.0 ∙ ap (λ (l : List ℕ). l ∷ whole_after [] ys) before.1 in
+    (whole_after-append buffered xs (10 ∷ ys) ∙ lines, rest_after-append buffered xs (10 ∷ ys))
 
 -- the lines round one that a newline ends
-pub lines_around : (held front xs ys : List ℕ) → NoNewlineBefore xs (length xs)
-    → whole_after held (front ++ (xs ++ 10 ∷ ys)) ≡ whole_after held front ++ ((rest_after held front ++ xs) ∷ whole_after [] ys)
-lines_around held front xs ys none =
-    whole_after-append held front (xs ++ 10 ∷ ys) ∙ ap (λ (ls : List (List ℕ)). whole_after held front ++ ls) (line_ended (rest_after held front) xs ys none).0
+pub lines_around : (buffered front xs ys : List ℕ) → NoNewlineBefore xs (length xs)
+    → whole_after buffered (front ++ (xs ++ 10 ∷ ys)) ≡ whole_after buffered front ++ ((rest_after buffered front ++ xs) ∷ whole_after [] ys)
+lines_around buffered front xs ys none =
+    whole_after-append buffered front (xs ++ 10 ∷ ys) ∙ ap (λ (ls : List (List ℕ)). whole_after buffered front ++ ls) (line_ended (rest_after buffered front) xs ys none).0
 
 -- a front with no newline before this place
 pub NoNewlineBefore-take : (bytes : List ℕ) (n : ℕ) → n ≤ length bytes → NoNewlineBefore bytes n → NoNewlineBefore (take n bytes) (length (take n bytes))

@@ -70,30 +70,30 @@ count_after-append n (line ∷ xs) ys = count_after-append (next_count n) xs ys
 
 module _ {S : Type 0} (answer : S → List ℕ → Answer S) where
   -- one part after another
-  pub AnswersWhole-then : {s t u : S} {held line rest xs ys : List ℕ} {old mid new : Sink} {a b : Bool}
-      → AnswersWhole answer s held xs old mid t line a → AnswersWhole answer t line ys mid new u rest b → AnswersWhole answer s held (xs ++ ys) old new u rest (a && b)
-  AnswersWhole-then {s} {t} {u} {held} {line} {rest} {xs} {ys} {old} {mid} {new} {a} {b} p q =
-      let first = whole_after held xs in
-      let second = whole_after (rest_after held xs) ys in
+  pub AnswersWhole-then : {s t u : S} {buffered line rest xs ys : List ℕ} {old mid new : Sink} {a b : Bool}
+      → AnswersWhole answer s buffered xs old mid t line a → AnswersWhole answer t line ys mid new u rest b → AnswersWhole answer s buffered (xs ++ ys) old new u rest (a && b)
+  AnswersWhole-then {s} {t} {u} {buffered} {line} {rest} {xs} {ys} {old} {mid} {new} {a} {b} p q =
+      let first = whole_after buffered xs in
+      let second = whole_after (rest_after buffered xs) ys in
       let from = state_after answer s first in
-      let ls : whole_after held (xs ++ ys) ≡ first ++ second = whole_after-append held xs ys in
-      let moved : AnswersWhole answer from (rest_after held xs) ys mid new u rest b =
-      subst (λ (z : S). AnswersWhole answer z (rest_after held xs) ys mid new u rest b) p.state_is (subst (λ (z : List ℕ). AnswersWhole answer t z ys mid new u rest b) p.rest_is q) in
-      let both : Appends old (replies answer s (whole_after held (xs ++ ys))) new =
+      let ls : whole_after buffered (xs ++ ys) ≡ first ++ second = whole_after-append buffered xs ys in
+      let moved : AnswersWhole answer from (rest_after buffered xs) ys mid new u rest b =
+      subst (λ (z : S). AnswersWhole answer z (rest_after buffered xs) ys mid new u rest b) p.state_is (subst (λ (z : List ℕ). AnswersWhole answer t z ys mid new u rest b) p.rest_is q) in
+      let both : Appends old (replies answer s (whole_after buffered (xs ++ ys))) new =
       rw (ls, replies-append answer s first second) (Appends-then old mid new (replies answer s first) (replies answer from second) p.written moved.written) in
-      let state : u ≡ state_after answer s (whole_after held (xs ++ ys)) = rw (ls, state_after-append answer s first second) moved.state_is in
-      let rest : rest ≡ rest_after held (xs ++ ys) = rw (rest_after-append held xs ys) moved.rest_is in
-      let all : (a && b) ≡ all_accepted answer s (whole_after held (xs ++ ys)) = rw (ls, all_accepted-append answer s first second, p.all_is, moved.all_is) refl in
-      let flushes : new.flushes ≡ count_after old.flushes (whole_after held (xs ++ ys)) =
+      let state : u ≡ state_after answer s (whole_after buffered (xs ++ ys)) = rw (ls, state_after-append answer s first second) moved.state_is in
+      let rest : rest ≡ rest_after buffered (xs ++ ys) = rw (rest_after-append buffered xs ys) moved.rest_is in
+      let all : (a && b) ≡ all_accepted answer s (whole_after buffered (xs ++ ys)) = rw (ls, all_accepted-append answer s first second, p.all_is, moved.all_is) refl in
+      let flushes : new.flushes ≡ count_after old.flushes (whole_after buffered (xs ++ ys)) =
       moved.flushes_is ∙ (ap (λ (n : ℕ). count_after n second) p.flushes_is ∙ (sym (count_after-append old.flushes first second) ∙ ap (count_after old.flushes) (sym ls))) in
       record { written = both; state_is = state; rest_is = rest; all_is = all; flushes_is = flushes; writes_on = WritesOn-then old mid new p.writes_on q.writes_on }
 
   -- the same under other names
-  pub AnswersWhole-same : {s t : S} {held bytes bytes' rest rest' : List ℕ} {old new : Sink} {a a' : Bool}
-      → AnswersWhole answer s held bytes old new t rest a → bytes' ≡ bytes → rest' ≡ rest → a' ≡ a → AnswersWhole answer s held bytes' old new t rest' a'
-  AnswersWhole-same {s} {t} {held} {bytes} {bytes'} {rest} {rest'} {old} {new} {a} {a'} p e_bytes e_rest e_a =
-      subst (λ (z : List ℕ). AnswersWhole answer s held z old new t rest' a') (sym e_bytes)
-      (subst (λ (z : List ℕ). AnswersWhole answer s held bytes old new t z a') (sym e_rest) (subst (λ (z : Bool). AnswersWhole answer s held bytes old new t rest z) (sym e_a) p))
+  pub AnswersWhole-same : {s t : S} {buffered bytes bytes' rest rest' : List ℕ} {old new : Sink} {a a' : Bool}
+      → AnswersWhole answer s buffered bytes old new t rest a → bytes' ≡ bytes → rest' ≡ rest → a' ≡ a → AnswersWhole answer s buffered bytes' old new t rest' a'
+  AnswersWhole-same {s} {t} {buffered} {bytes} {bytes'} {rest} {rest'} {old} {new} {a} {a'} p e_bytes e_rest e_a =
+      subst (λ (z : List ℕ). AnswersWhole answer s buffered z old new t rest' a') (sym e_bytes)
+      (subst (λ (z : List ℕ). AnswersWhole answer s buffered bytes old new t z a') (sym e_rest) (subst (λ (z : Bool). AnswersWhole answer s buffered bytes old new t rest z) (sym e_a) p))
 
   -- a line that a newline ends
   pub line_answered : {t u : S} (line xs : List ℕ) {old new : Sink} {accepted : Bool} → NoNewlineBefore xs (length xs)
@@ -110,7 +110,7 @@ module _ {S : Type 0} (answer : S → List ℕ → Answer S) where
         writes_on = h.writes_on;
       }
 
-  -- bytes with no newline, which are held
+  -- bytes with no newline, which are buffered
   pub no_line_answered : {t : S} (line xs : List ℕ) {old : Sink} → NoNewlineBefore xs (length xs) → AnswersWhole answer t line xs old old t (line ++ xs) true
   no_line_answered {t} line xs {old} none =
       let e = no_lines line xs none in
@@ -195,14 +195,14 @@ module _ {S : Type 0} (answer : S → List ℕ → Answer S) where
       → bytes ≡ (answer t line).text ++ 10 ∷ [] → Appends old bytes mid → mid.flushes ≡ old.flushes
       → WritesOn old mid → Keeps mid.written new.written → new.flushes ≡ mid.flushes → new.failed ≡ mid.failed + 1
       → StopsFor answer t (line ∷ []) (streams still still old new) Write
-  stops_at_flush t line bytes old mid new still is wrote before on kept flushed failed = (
+  stops_at_flush t line bytes old mid new still is wrote before on retained flushed failed = (
     record {
       done = [];
       left = line ∷ [];
       part = bytes;
       lines_are = refl;
       begins = record { more = []; whole = append-nil bytes ∙ is };
-      written = Appends-kept old.written mid.written new.written bytes wrote kept;
+      written = Appends-kept old.written mid.written new.written bytes wrote retained;
       flushes_is = flushed ∙ before;
     },
     (refl, CannotWrite-then old mid new on (inl failed)),
@@ -247,27 +247,27 @@ module _ {S : Type 0} (answer : S → List ℕ → Answer S) where
   StopsFor-longer s xs ys still old new e h = (Stops-longer s xs ys old new h.0, because-then e still old old new h.0.left (h.0.left ++ ys) h.0.part (WritesOn-none old) h.1)
 
   -- an error at a line that ends in the chunk
-  pub stops_at_line : {s t : S} {held line chunk front : List ℕ} (xs ys : List ℕ) (still : Source) (e : LineFault) {old mid new : Sink} {a : Bool}
-      → chunk ≡ front ++ (xs ++ 10 ∷ ys) → NoNewlineBefore xs (length xs) → AnswersWhole answer s held front old mid t line a → StopsFor answer t ((line ++ xs) ∷ []) (streams still still mid new) e
-      → StopsFor answer s (whole_after held chunk) (streams still still old new) e
-  stops_at_line {s} {t} {held} {line} {chunk} {front} xs ys still e {old} {mid} {new} {a} parts none p h =
-      let first = whole_after held front in
+  pub stops_at_line : {s t : S} {buffered line chunk front : List ℕ} (xs ys : List ℕ) (still : Source) (e : LineFault) {old mid new : Sink} {a : Bool}
+      → chunk ≡ front ++ (xs ++ 10 ∷ ys) → NoNewlineBefore xs (length xs) → AnswersWhole answer s buffered front old mid t line a → StopsFor answer t ((line ++ xs) ∷ []) (streams still still mid new) e
+      → StopsFor answer s (whole_after buffered chunk) (streams still still old new) e
+  stops_at_line {s} {t} {buffered} {line} {chunk} {front} xs ys still e {old} {mid} {new} {a} parts none p h =
+      let first = whole_after buffered front in
       let from = state_after answer s first in
-      let it = (rest_after held front ++ xs) ∷ [] in
+      let it = (rest_after buffered front ++ xs) ∷ [] in
       let at_line : StopsFor answer from it (streams still still mid new) e =
       subst (λ (z : S). StopsFor answer z it (streams still still mid new) e) p.state_is (subst (λ (z : List ℕ). StopsFor answer t ((z ++ xs) ∷ []) (streams still still mid new) e) p.rest_is h) in
       let later = whole_after [] ys in
-      let lines : first ++ (it ++ later) ≡ whole_after held chunk = sym (lines_around held front xs ys none) ∙ ap (whole_after held) (sym parts) in
+      let lines : first ++ (it ++ later) ≡ whole_after buffered chunk = sym (lines_around buffered front xs ys none) ∙ ap (whole_after buffered) (sym parts) in
       subst (λ (ls : List (List ℕ)). StopsFor answer s ls (streams still still old new) e) lines
       (StopsFor-then s first (it ++ later) still old mid new e p.writes_on p.written p.flushes_is (StopsFor-longer from it later still mid new e at_line))
 
   -- memory that was refused after the lines of a front
-  pub stops_after : {s t : S} {held line front : List ℕ} (rest : List ℕ) {chunk : List ℕ} (still : Source) {old new : Sink} {a : Bool}
-      → front ++ rest ≡ chunk → AnswersWhole answer s held front old new t line a → StopsFor answer s (whole_after held chunk) (streams still still old new) OutOfMemory
+  pub stops_after : {s t : S} {buffered line front : List ℕ} (rest : List ℕ) {chunk : List ℕ} (still : Source) {old new : Sink} {a : Bool}
+      → front ++ rest ≡ chunk → AnswersWhole answer s buffered front old new t line a → StopsFor answer s (whole_after buffered chunk) (streams still still old new) OutOfMemory
   unfolding Stops-between
-  stops_after {s} {t} {held} {line} {front} rest {chunk} still {old} {new} {a} parts p = (
-    Stops-between s (whole_after held front) (whole_after (rest_after held front) rest) (whole_after held chunk) old new
-        (sym (whole_after-append held front rest) ∙ ap (whole_after held) parts) p.written p.flushes_is,
+  stops_after {s} {t} {buffered} {line} {front} rest {chunk} still {old} {new} {a} parts p = (
+    Stops-between s (whole_after buffered front) (whole_after (rest_after buffered front) rest) (whole_after buffered chunk) old new
+        (sym (whole_after-append buffered front rest) ∙ ap (whole_after buffered) parts) p.written p.flushes_is,
     (refl, (p.writes_on, refl)),
   )
 
@@ -335,7 +335,7 @@ module _ {S : Type 0} (answer : S → List ℕ → Answer S) where
     stops = (Stops-between s [] [] [] to to refl (Appends-nil to.written) refl, (refl, (WritesOn-none to, refl)));
   }
 
-  -- the end, where nothing is held
+  -- the end, where nothing is buffered
   pub ends_empty : {s t : S} {line bytes : List ℕ} {old new : Sink} {all : Bool}
       → line ≡ [] → AnswersWhole answer s [] bytes old new t line all → AnswersAll answer s bytes old new t all
   ends_empty {s} {t} {line} {bytes} {old} {new} {all} none p =
@@ -384,8 +384,8 @@ module _ {S : Type 0} (answer : S → List ℕ → Answer S) where
   -- all that was to be read was read
   pub whole_input : {s t : S} {input : List ℕ} {io : Streams} {all : Bool}
       → io.from.left ≡ Some input → EndsWell answer s io t all → AnswersAll answer s input io.to io.to' t all
-  whole_input {s} {t} {input} {io} {all} told h =
-      let took = taken_front input io.from io.from' h.bytes told h.read in
+  whole_input {s} {t} {input} {io} {all} reported h =
+      let took = taken_front input io.from io.from' h.bytes reported h.read in
       let same : h.bytes ≡ input = sym (took.1.1 ∙ ap (λ (r : List ℕ). h.bytes ++ r) (none_left-is took.0 io.from' took.1.0 h.at_end.none_left) ∙ append-nil h.bytes) in
       subst (λ (bytes : List ℕ). AnswersAll answer s bytes io.to io.to' t all) same h.answers
 
@@ -420,14 +420,14 @@ module _ {S : Type 0} (answer : S → List ℕ → Answer S) where
   -- after an error what was written begins the output of the whole input
   pub part_of_input : {s : S} {input : List ℕ} {io : Streams} {e : LineFault}
       → io.from.left ≡ Some input → EndsBadly answer s io e → WritesPart (output answer s input) io.to io.to'
-  part_of_input {s} {input} {io} {e} told h =
-      let took = taken_front input io.from io.from' h.bytes told h.read in
+  part_of_input {s} {input} {io} {e} reported h =
+      let took = taken_front input io.from io.from' h.bytes reported h.read in
       subst (λ (bytes : List ℕ). WritesPart (output answer s bytes) io.to io.to') (sym took.1.1) (by_lines h.lines_are) where
         wrote : WritesPart (replies answer s h.lines) io.to io.to'
         wrote = Stops-part s h.lines io.to io.to' h.stops.0
 
         rest : List ℕ
-        rest = (taken_front input io.from io.from' h.bytes told h.read).0
+        rest = (taken_front input io.from io.from' h.bytes reported h.read).0
 
         by_lines : AreRead io.from io.from' h.bytes h.lines → WritesPart (output answer s (h.bytes ++ rest)) io.to io.to'
         by_lines (inl are) =
@@ -437,6 +437,6 @@ module _ {S : Type 0} (answer : S → List ℕ → Answer S) where
             (subst (λ (r : List ℕ). WritesPart r io.to io.to') (sym (replies-append answer s h.lines more))
             (WritesPart-longer (replies answer s h.lines) (replies answer (state_after answer s h.lines) more) io.to io.to' wrote))
         by_lines (inr ended) =
-            let is = (taken_front input io.from io.from' h.bytes told h.read).1.0 in
+            let is = (taken_front input io.from io.from' h.bytes reported h.read).1.0 in
             let none : h.bytes ≡ h.bytes ++ rest = sym (ap (λ (r : List ℕ). h.bytes ++ r) (none_left-is rest io.from' is ended.0.none_left) ∙ append-nil h.bytes) in
             subst (λ (bytes : List ℕ). WritesPart (output answer s bytes) io.to io.to') none (subst (λ (ls : List (List ℕ)). WritesPart (replies answer s ls) io.to io.to') ended.1 wrote)

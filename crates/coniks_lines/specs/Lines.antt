@@ -1,15 +1,15 @@
 -- The lines of bytes: the parts that end at a newline, and the part after the last one.
 use Rattle.std.specs.Prelude.{ℕ, List, [], ◌∷◌, ◌++◌, ◌==◌, if◌then◌else◌}
 
--- the lines that end at a newline; `held` is the beginning of the first one
+-- the lines that end at a newline; `buffered` is the beginning of the first one
 abbrev pub whole_after : List ℕ → List ℕ → List (List ℕ)
-whole_after held [] = []
-whole_after held (b ∷ bytes) = if b == 10 then held ∷ whole_after [] bytes else whole_after (held ++ b ∷ []) bytes
+whole_after buffered [] = []
+whole_after buffered (b ∷ bytes) = if b == 10 then buffered ∷ whole_after [] bytes else whole_after (buffered ++ b ∷ []) bytes
 
--- the part after the last newline, with `held` before it if there is no newline
+-- the part after the last newline, with `buffered` before it if there is no newline
 abbrev pub rest_after : List ℕ → List ℕ → List ℕ
-rest_after held [] = held
-rest_after held (b ∷ bytes) = if b == 10 then rest_after [] bytes else rest_after (held ++ b ∷ []) bytes
+rest_after buffered [] = buffered
+rest_after buffered (b ∷ bytes) = if b == 10 then rest_after [] bytes else rest_after (buffered ++ b ∷ []) bytes
 
 -- the lines that a newline ends
 abbrev pub whole_lines : List ℕ → List (List ℕ)

@@ -60,15 +60,15 @@ pub record AnswersLine {S : Type 0} (answer : S → List ℕ → Answer S) (star
   pub flushed : new.flushes ≡ next_count old.flushes
   pub writes_on : WritesOn old new
 
--- `held` is the incomplete line before `bytes`: the machine replied to each whole line of
+-- `buffered` is the incomplete line before `bytes`: the machine replied to each whole line of
 -- both and flushed after each; `rest` is the incomplete line that is left
 pub record AnswersWhole {S : Type 0} (answer : S → List ℕ → Answer S) (start : S)
-    (held bytes : List ℕ) (old new : Sink) (state : S) (rest : List ℕ) (all : Bool) : Type 0 where
-  pub written : Appends old (replies answer start (whole_after held bytes)) new
-  pub state_is : state ≡ state_after answer start (whole_after held bytes)
-  pub rest_is : rest ≡ rest_after held bytes
-  pub all_is : all ≡ all_accepted answer start (whole_after held bytes)
-  pub flushes_is : new.flushes ≡ count_after old.flushes (whole_after held bytes)
+    (buffered bytes : List ℕ) (old new : Sink) (state : S) (rest : List ℕ) (all : Bool) : Type 0 where
+  pub written : Appends old (replies answer start (whole_after buffered bytes)) new
+  pub state_is : state ≡ state_after answer start (whole_after buffered bytes)
+  pub rest_is : rest ≡ rest_after buffered bytes
+  pub all_is : all ≡ all_accepted answer start (whole_after buffered bytes)
+  pub flushes_is : new.flushes ≡ count_after old.flushes (whole_after buffered bytes)
   pub writes_on : WritesOn old new
 
 -- the machine replied to each line of the bytes and flushed after each

@@ -14,7 +14,7 @@ use std::alloc::{AllocError, Global};
 /// The byte that ends a line.
 const NEWLINE: u8 = b'\n';
 
-/// The number of bytes that a read asks for.
+/// The number of bytes that a read requests.
 const CHUNK: usize = 64 * 1024;
 
 /// The largest number of reads of a run.
@@ -118,7 +118,7 @@ fn read_lines<M: LineMachine, R: ByteIn, W: ByteOut>(
     ensures err { IfErr result (EndsBadly M.answer (M.state machine.old)
         (streams (R.source reader.old) (R.source reader.new) (W.sink writer.old) (W.sink writer.new))) }
 {
-    let mut held = Vec::new(alloc);
+    let mut buffered = Vec::new(alloc);
     let mut out = Vec::new(alloc);
     let mut all = true;
     for _reads in 0..MAX_READS {
@@ -126,13 +126,13 @@ fn read_lines<M: LineMachine, R: ByteIn, W: ByteOut>(
             return Err(LineFault::Read);
         };
         if count == 0 {
-            if !held.is_empty() {
-                let accepted = answer_line(machine, &[], &mut held, &mut out, writer)?;
+            if !buffered.is_empty() {
+                let accepted = answer_line(machine, &[], &mut buffered, &mut out, writer)?;
                 all &= accepted;
             }
             return Ok(all);
         }
-        let accepted = take_chunk(machine, &buffer[..count], &mut held, &mut out, writer)?;
+        let accepted = take_chunk(machine, &buffer[..count], &mut buffered, &mut out, writer)?;
         all &= accepted;
     }
     Err(LineFault::Read)
@@ -142,63 +142,63 @@ fn read_lines<M: LineMachine, R: ByteIn, W: ByteOut>(
 fn take_chunk<M: LineMachine, W: ByteOut>(
     machine: &mut M,
     chunk: &[u8],
-    held: &mut Vec<u8>,
+    buffered: &mut Vec<u8>,
     out: &mut Vec<u8>,
     writer: &mut W,
 ) -> Result<bool, LineFault>
     requires needs { M.Needs }
     requires writes { (W.sink writer.old).failed + 1 < 2 ^ 64 }
-    ensures ok { IfOk result (AnswersWhole M.answer (M.state machine.old) held.old.items chunk.now
+    ensures ok { IfOk result (AnswersWhole M.answer (M.state machine.old) buffered.old.items chunk.now
         (W.sink writer.old) (W.sink writer.new)
-        (M.state machine.new) held.new.items) }
-    ensures err { (still : Source) → IfErr result (StopsFor M.answer (M.state machine.old) (whole_after held.old.items chunk.now)
+        (M.state machine.new) buffered.new.items) }
+    ensures err { (still : Source) → IfErr result (StopsFor M.answer (M.state machine.old) (whole_after buffered.old.items chunk.now)
         (streams still still (W.sink writer.old) (W.sink writer.new))) }
 {
     let mut all = true;
     let mut start = 0;
     while let Some(ahead) = memchr(NEWLINE, &chunk[start..]) {
-        let accepted = answer_line(machine, &chunk[start..start + ahead], held, out, writer)?;
+        let accepted = answer_line(machine, &chunk[start..start + ahead], buffered, out, writer)?;
         all &= accepted;
         start += ahead + 1;
     }
-    if held.extend_from_slice(&chunk[start..]).is_err() {
+    if buffered.extend_from_slice(&chunk[start..]).is_err() {
         return Err(LineFault::OutOfMemory);
     }
     Ok(all)
 }
 
-/// Returns the line that is held and ends with this part. A line of which nothing was held is not copied.
-fn whole_line<'l>(held: &'l mut Vec<u8>, part: &'l [u8]) -> Result<&'l [u8], AllocError>
-    ensures { IfOk result (λ line. line.now ≡ held.old.items ++ part.now) }
+/// Returns the line that is buffered and ends with this part. A line of which nothing was buffered is not copied.
+fn whole_line<'l>(buffered: &'l mut Vec<u8>, part: &'l [u8]) -> Result<&'l [u8], AllocError>
+    ensures { IfOk result (λ line. line.now ≡ buffered.old.items ++ part.now) }
 {
-    if held.is_empty() {
+    if buffered.is_empty() {
         return Ok(part);
     }
-    held.extend_from_slice(part)?;
-    Ok(held)
+    buffered.extend_from_slice(part)?;
+    Ok(buffered)
 }
 
-/// Answers the line that is held and ends with this part: its text, a newline and a flush. Nothing is held then.
+/// Answers the line that is buffered and ends with this part: its text, a newline and a flush. Nothing is buffered then.
 ///
 /// `out` is a buffer with any contents.
 fn answer_line<M: LineMachine, W: ByteOut>(
     machine: &mut M,
     part: &[u8],
-    held: &mut Vec<u8>,
+    buffered: &mut Vec<u8>,
     out: &mut Vec<u8>,
     writer: &mut W,
 ) -> Result<bool, LineFault>
     requires needs { M.Needs }
     requires writes { (W.sink writer.old).failed + 1 < 2 ^ 64 }
-    ensures ok { IfOk result (AnswersLine M.answer (M.state machine.old) (held.old.items ++ part.now)
+    ensures ok { IfOk result (AnswersLine M.answer (M.state machine.old) (buffered.old.items ++ part.now)
         (W.sink writer.old) (W.sink writer.new)
         (M.state machine.new)) }
-    ensures none_held { OnOk result (held.new.items ≡ []) }
-    ensures err { (still : Source) → IfErr result (StopsFor M.answer (M.state machine.old) ((held.old.items ++ part.now) ∷ [])
+    ensures none_buffered { OnOk result (buffered.new.items ≡ []) }
+    ensures err { (still : Source) → IfErr result (StopsFor M.answer (M.state machine.old) ((buffered.old.items ++ part.now) ∷ [])
         (streams still still (W.sink writer.old) (W.sink writer.new))) }
 {
     out.clear();
-    let Ok(line) = whole_line(held, part) else {
+    let Ok(line) = whole_line(buffered, part) else {
         return Err(LineFault::OutOfMemory);
     };
     let Ok(accepted) = machine.step(line, out) else {
@@ -211,7 +211,7 @@ fn answer_line<M: LineMachine, W: ByteOut>(
     if writer.flush().is_err() {
         return Err(LineFault::Write);
     }
-    held.clear();
+    buffered.clear();
     Ok(accepted)
 }
 

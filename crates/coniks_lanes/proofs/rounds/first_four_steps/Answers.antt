@@ -3,9 +3,9 @@ use Rattle.sha2.specs.Sha256.{rounds, schedule}
 use Rattle.coniks_lanes.proofs.rounds.first_four_steps.Goals as goal
 
 pub returns : goal.returns
-returns g c = λ j lt b h window held.
+returns g c = λ j lt b h window stored.
     let after = rounds h (schedule b 48) in
-    let s1 = c.first_step-v.ensures j lt b h window held in
+    let s1 = c.first_step-v.ensures j lt b h window stored in
     let s2 = c.first_step-v-2.ensures j lt b h window s1 in
     let s3 = c.first_step-v-3.ensures j lt b h window (s2 ∙ ap after (omega arith)) in
     c.first_step.ensures j lt b h window (s3 ∙ ap after (omega arith)) ∙ ap after (omega arith)

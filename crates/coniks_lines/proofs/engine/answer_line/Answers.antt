@@ -10,7 +10,7 @@ returns-in_err-write_all-clause-err g c =
     let answer = g.M.LineMachine.answer in
     let state = g.M.LineMachine.state c.args.machine.now in
     let sink = g.W.ByteOut.sink in
-    let line = c.args.held.now.items ++ c.args.part.now in
+    let line = c.args.buffered.now.items ++ c.args.part.now in
     let text : c.deref.result.now ≡ (answer state line).text ++ 10 ∷ [] = grind (arith, common_steps) in
     let part = c.in_err-write_all.ensures.part in
     λ still.
@@ -19,20 +19,20 @@ returns-in_err-write_all-clause-err g c =
     part.0 still text part.1 c.in_err-write_all.ensures.flushes c.in_err-write_all.ensures.because)
 
 pub returns-in_default-clause-err : goal.returns-in_default-clause-err
-returns-in_default-clause-err g c = λ still. stops_before g.M.LineMachine.answer (g.M.LineMachine.state c.args.machine.now) (c.args.held.now.items ++ c.args.part.now) (g.W.ByteOut.sink c.args.writer.now) still
+returns-in_default-clause-err g c = λ still. stops_before g.M.LineMachine.answer (g.M.LineMachine.state c.args.machine.now) (c.args.buffered.now.items ++ c.args.part.now) (g.W.ByteOut.sink c.args.writer.now) still
 
 pub returns-in_default-step-clause-err : goal.returns-in_default-step-clause-err
-returns-in_default-step-clause-err g c = λ still. stops_before g.M.LineMachine.answer (g.M.LineMachine.state c.args.machine.now) (c.args.held.now.items ++ c.args.part.now) (g.W.ByteOut.sink c.args.writer.now) still
+returns-in_default-step-clause-err g c = λ still. stops_before g.M.LineMachine.answer (g.M.LineMachine.state c.args.machine.now) (c.args.buffered.now.items ++ c.args.part.now) (g.W.ByteOut.sink c.args.writer.now) still
 
 pub returns-then-is_err-clause-err : goal.returns-then-is_err-clause-err
-returns-then-is_err-clause-err g c = λ still. stops_before g.M.LineMachine.answer (g.M.LineMachine.state c.args.machine.now) (c.args.held.now.items ++ c.args.part.now) (g.W.ByteOut.sink c.args.writer.now) still
+returns-then-is_err-clause-err g c = λ still. stops_before g.M.LineMachine.answer (g.M.LineMachine.state c.args.machine.now) (c.args.buffered.now.items ++ c.args.part.now) (g.W.ByteOut.sink c.args.writer.now) still
 
 pub returns-then-is_err-2-clause-err : goal.returns-then-is_err-2-clause-err
 returns-then-is_err-2-clause-err g c =
     let answer = g.M.LineMachine.answer in
     let state = g.M.LineMachine.state c.args.machine.now in
     let sink = g.W.ByteOut.sink in
-    let line = c.args.held.now.items ++ c.args.part.now in
+    let line = c.args.buffered.now.items ++ c.args.part.now in
     let wrote = c.in_ok-write_all.ensures in
     let text : c.deref.result.now ≡ (answer state line).text ++ 10 ∷ [] = grind (arith, common_steps) in
     let flushed : (sink c.flush.new.self).flushes ≡ (sink c.write_all.new.writer).flushes = grind (arith, common_steps) in

@@ -10,7 +10,7 @@ use Rattle.coniks_lines.proofs.RunsLemmas.{ReadsOn, Counted, AnswersWhole-then, 
 use Rattle.coniks_lines.proofs.engine.read_lines.Goals as goal
 use Rattle.coniks_lines.proofs.engine.read_lines.Goals.{then-not-is_empty+in_ok-accepted, else-not-is_empty}
 
--- ---- a read that answered 0: the source has ended, and what is held is the last line
+-- ---- a read that answered 0: the source has ended, and what is buffered is the last line
 
 pub returns-in_err-accepted-clause-err : goal.returns-in_err-accepted-clause-err
 returns-in_err-accepted-clause-err g c =
@@ -20,7 +20,7 @@ returns-in_err-accepted-clause-err g c =
     let inv = loop.invariant.1 in
     let from = source c.args.reader.now in
     let from' = source c.read.new.self in
-    let some : loop.held.items ≢ [] = grind (arith, common_steps) in
+    let some : loop.buffered.items ≢ [] = grind (arith, common_steps) in
     -- all bytes were read
     let ends : from'.ends ≡ (((source loop.reader).ends + 1) % 2 ^ 64) = grind (arith, common_steps) in
     let failed : from'.failed ≡ (source loop.reader).failed = grind (arith, common_steps) in
@@ -28,7 +28,7 @@ returns-in_err-accepted-clause-err g c =
     let took = Takes-end from (source loop.reader) from' loop.invariant.0 c.read.new.buffer c.in-Ok.count inv.taken c.in-Ok.ensures.taken c.if-count-eq0.true in
     -- and the last line wasn't answered
     let at_line = subst (λ (line : List ℕ). StopsFor g.M.LineMachine.answer (g.M.LineMachine.state loop.machine) (line ∷ [])
-    (streams from from (g.W.ByteOut.sink loop.writer) (g.W.ByteOut.sink c.answer_line.new.writer)) c.in_err-accepted.field-0.0) (append-nil loop.held.items) (c.in_err-accepted.ensures.err from) in
+    (streams from from (g.W.ByteOut.sink loop.writer) (g.W.ByteOut.sink c.answer_line.new.writer)) c.in_err-accepted.field-0.0) (append-nil loop.buffered.items) (c.in_err-accepted.ensures.err from) in
     rw (p.1, p.2) (ends_at_last g.M.LineMachine.answer some took (failed ∙ inv.reads_on.none_failed) ended inv.answers at_line)
 
 pub returns-then-count-eq0-clause-ok : goal.returns-then-count-eq0-clause-ok
@@ -51,13 +51,13 @@ returns-then-count-eq0-clause-ok g c =
       answers = elim c.if-not-is_empty.branch [
         -- the last line was answered
         | then-not-is_empty+in_ok-accepted w ↦
-            let some : loop.held.items ≢ [] = grind (arith, common_steps, w.if-not-is_empty.true) in
+            let some : loop.buffered.items ≢ [] = grind (arith, common_steps, w.if-not-is_empty.true) in
             let line = subst (λ (l : List ℕ). AnswersLine answer (state loop.machine) l (sink loop.writer) (sink w.answer_line.new.writer)
-            (state w.answer_line.new.machine) w.in_ok-accepted.accepted) (append-nil loop.held.items) w.in_ok-accepted.ensures.ok in
+            (state w.answer_line.new.machine) w.in_ok-accepted.accepted) (append-nil loop.buffered.items) w.in_ok-accepted.ensures.ok in
             AnswersAll-same answer (ends_with_line answer some inv.answers line) (ap state w.machine-is) (ap sink w.writer-is) w.all-is
-        -- nothing was held
+        -- nothing was buffered
         | else-not-is_empty w ↦
-            let none : loop.held.items ≡ [] = grind (arith, common_steps, w.if-not-is_empty.false) in
+            let none : loop.buffered.items ≡ [] = grind (arith, common_steps, w.if-not-is_empty.false) in
             AnswersAll-same answer (ends_empty answer none inv.answers) (ap state w.machine-is) (ap sink w.writer-is) w.all-is
       ];
     }
@@ -102,10 +102,10 @@ returns-in_default-clause-err g c =
     let loop = c.loop-reads in
     let inv = loop.invariant.1 in
     let from' = source c.read.new.self in
-    let kept : Keeps (source loop.reader).left from'.left = grind (arith, common_steps) in
+    let retained : Keeps (source loop.reader).left from'.left = grind (arith, common_steps) in
     let failed : from'.failed ≡ (source loop.reader).failed + 1 = grind (arith, common_steps) in
     let ends : from'.ends ≡ (source loop.reader).ends = grind (arith, common_steps) in
-    let took = Consumes-kept (source c.args.reader.now).left (source loop.reader).left from'.left loop.invariant.0 inv.taken kept in
+    let took = Consumes-kept (source c.args.reader.now).left (source loop.reader).left from'.left loop.invariant.0 inv.taken retained in
     ends_unread g.M.LineMachine.answer took (ends ∙ inv.reads_on.not_ended, inl (failed ∙ ap (λ (n : ℕ). n + 1) inv.reads_on.none_failed)) inv.answers
 
 pub returns-clause-err : goal.returns-clause-err

@@ -13,6 +13,6 @@ invariant-loop-reads g l =
     (bytes : List ℕ) × record {
       taken : Takes (source l.fn.reader) bytes (source l.reader);
       counted : Counted l._reads (source l.fn.reader).reads (source l.reader).reads;
-      answers : AnswersWhole g.M.LineMachine.answer (state l.fn.machine) [] bytes (sink l.fn.writer) (sink l.writer) (state l.machine) l.held.items l.all;
+      answers : AnswersWhole g.M.LineMachine.answer (state l.fn.machine) [] bytes (sink l.fn.writer) (sink l.writer) (state l.machine) l.buffered.items l.all;
       reads_on : ReadsOn (source l.fn.reader) (source l.reader);
     }

@@ -19,13 +19,13 @@ returns-in_err-accepted-clause-err g c =
 pub loop-ahead-preserved : goal.loop-ahead-preserved
 loop-ahead-preserved g c =
     let answer = g.M.LineMachine.answer in
-    let told = c.in_ok-accepted.ensures in
+    let reported = c.in_ok-accepted.ensures in
     let start = c.loop-ahead.start in
     let found = newline_found c.args.chunk.now start c.in-Some.ahead c.loop-ahead.invariant.within c.in-Some.ensures in
-    let line = line_answered answer c.loop-ahead.held.items (part_of c.args.chunk.now start (start + c.in-Some.ahead)) found.none_before told.ok in
+    let line = line_answered answer c.loop-ahead.buffered.items (part_of c.args.chunk.now start (start + c.in-Some.ahead)) found.none_before reported.ok in
     record {
       within = omega (arith, found.fits);
-      answers = AnswersWhole-same answer (AnswersWhole-then answer c.loop-ahead.invariant.answers line) found.longer told.none_held refl;
+      answers = AnswersWhole-same answer (AnswersWhole-then answer c.loop-ahead.invariant.answers line) found.longer reported.none_buffered refl;
     }
 
 pub returns-then-is_err-clause-err : goal.returns-then-is_err-clause-err
@@ -40,6 +40,6 @@ returns-clause-ok g c =
     let loop = c.loop-ahead in
     let chunk = c.args.chunk.now in
     let rest = part_of chunk loop.start (length chunk) in
-    let held = no_line_answered answer {t = g.M.LineMachine.state loop.machine} loop.held.items rest {old = g.W.ByteOut.sink loop.writer} (no_newline_found rest c.in_default.ensures) in
-    let extended : c.extend_from_slice.new.self.items ≡ loop.held.items ++ rest = grind (arith, common_steps) in
-    AnswersWhole-same answer (AnswersWhole-then answer loop.invariant.answers held) (sym (front_and_rest chunk loop.start)) extended (and_true loop.all)
+    let buffered = no_line_answered answer {t = g.M.LineMachine.state loop.machine} loop.buffered.items rest {old = g.W.ByteOut.sink loop.writer} (no_newline_found rest c.in_default.ensures) in
+    let extended : c.extend_from_slice.new.self.items ≡ loop.buffered.items ++ rest = grind (arith, common_steps) in
+    AnswersWhole-same answer (AnswersWhole-then answer loop.invariant.answers buffered) (sym (front_and_rest chunk loop.start)) extended (and_true loop.all)

@@ -9,7 +9,7 @@ invariant-loop-ahead g l =
     let state = g.M.LineMachine.state in
     record {
       within : l.start ≤ length l.chunk;
-      answers : AnswersWhole g.M.LineMachine.answer (state l.fn.machine) l.fn.held.items (take l.start l.chunk) (sink l.fn.writer) (sink l.writer) (state l.machine) l.held.items l.all;
+      answers : AnswersWhole g.M.LineMachine.answer (state l.fn.machine) l.fn.buffered.items (take l.start l.chunk) (sink l.fn.writer) (sink l.writer) (state l.machine) l.buffered.items l.all;
     }
 
 abbrev pub decreases-loop-ahead : goal.decreases-loop-ahead
