@@ -100,7 +100,7 @@ end_sound index name level (Other other c) none =
 end_sound index name level (Here here key o) none =
     (stable here name (none WrongName), some_there (length key) (λ e. none KeyLength (inl e)), at_most MAX_KEY (length key) (λ e. none KeyLength (inr e)))
 
--- no end is too deep, nor has it an error of the asked name's length or of the root
+-- no end is too deep, nor has it an error of the requested name's length or of the root
 end_has_none : (index name : List ℕ) (level : ℕ) (end : End)
     → (EndHas index name level end TooDeep → ⊥) × (EndHas index name level end NameLength → ⊥) × (EndHas index name level end RootMismatch → ⊥)
 end_has_none index name level Empty = ((λ has. has), (λ has. has), λ has. has)

@@ -232,38 +232,38 @@ stands_there hash index_of registry name b map found =
 -- what the end says
 record SaysOf (name : List ℕ) (index : List ℕ) (level : ℕ) (a : End) (key : Option (List ℕ)) : Type 0 where
   fits : EndFits index name level a
-  said : answer_of a ≡ key
+  stated : answer_of a ≡ key
 
 says : (hash index_of : List ℕ → List ℕ) (nonce : List ℕ) (registry : Registry) (name : List ℕ) (n : ℕ) (a : End) (found : Option Registered)
     → IsMap (entries_of hash index_of registry) → AreWithin registry → n ≡ length (siblings (hashing hash nonce) [] (index_of name) (entries_of hash index_of registry))
     → (has_name registry name ≡ false → IsFree index_of registry (index_of name))
     → bound_to registry name ≡ found → EndIs (index_of name) (end_of [] (index_of name) (entries_of hash index_of registry)) a
     → SaysOf name (index_of name) n a (key_of registry name)
-says hash index_of nonce registry name n Empty None map all size alone found is = record { fits = tt; said = rw found refl }
+says hash index_of nonce registry name n Empty None map all size alone found is = record { fits = tt; stated = rw found refl }
 says hash index_of nonce registry name n Empty (Some b) map all size alone found is =
     absurd (one_differs (entry_of hash index_of b) (sym (stands_there hash index_of registry name b map found) ∙ is))
 says hash index_of nonce registry name n (Other other c) None map all size alone found is = record {
   fits = (is.0, other_on_path (hashing hash nonce) (entries_of hash index_of registry) (index_of name) n (record { index = other.0; commitment = c.0; behind = is.1.0 }) map size is.1.1);
-  said = rw found refl;
+  stated = rw found refl;
 }
 says hash index_of nonce registry name n (Other other c) (Some b) map all size alone found is =
     let same = first_same (record { index = other.0; commitment = c.0; behind = is.1.0 }) (entry_of hash index_of b) (sym is.1.1 ∙ stands_there hash index_of registry name b map found) in
     absurd (is.0 (ap (λ (x : Entry Registered). x.index) same ∙ ap index_of (bound_in registry name b found).1))
-says hash index_of nonce registry name n (Here held key o) None map all size alone none is =
-    let b : Registered = record { name = held; key = key; opening = o.0 } in
+says hash index_of nonce registry name n (Here stored key o) None map all size alone none is =
+    let b : Registered = record { name = stored; key = key; opening = o.0 } in
     let own = at_end hash index_of registry (index_of name) (record { index = index_of name; commitment = is.0; behind = b }) map is.1 in
-    let at : index_of held ≡ index_of name = ap (λ (x : Entry Registered). x.index) own.0 in
-    let free : has_name registry held ≡ false = alone (unnamed registry name none) held at in
-    let has : has_name registry held ≡ true = named_in b registry own.1 in
+    let at : index_of stored ≡ index_of name = ap (λ (x : Entry Registered). x.index) own.0 in
+    let free : has_name registry stored ≡ false = alone (unnamed registry name none) stored at in
+    let has : has_name registry stored ≡ true = named_in b registry own.1 in
     cc
-says hash index_of nonce registry name n (Here held key o) (Some x) map all size alone some is =
-    let b : Registered = record { name = held; key = key; opening = o.0 } in
+says hash index_of nonce registry name n (Here stored key o) (Some x) map all size alone some is =
+    let b : Registered = record { name = stored; key = key; opening = o.0 } in
     let e : Entry Registered = record { index = index_of name; commitment = is.0; behind = b } in
     let own = at_end hash index_of registry (index_of name) e map is.1 in
     let same : x ≡ b = ap (λ (y : Entry Registered). y.behind) (first_same (entry_of hash index_of x) e (sym (stands_there hash index_of registry name x map some) ∙ is.1)) in
     let bound : bound_to registry name ≡ Some b = some ∙ ap Some same in
     let good = within b registry all own.1 in
-    record { fits = ((bound_in registry name b bound).1, good.1.0, good.1.1); said = rw bound refl }
+    record { fits = ((bound_in registry name b bound).1, good.1.0, good.1.1); stated = rw bound refl }
 
 -- the path to a name's index is accepted with exactly what the name is bound to; of a name that is bound to nothing no registered
 -- name may have the index
@@ -278,5 +278,5 @@ path_accepted hash index_of nonce root registry name proof map all root-is path 
     record {
       well_formed = record { depth = deep.1; name_given = fits.0; name_fits = fits.1; end_fits = end.fits };
       root_met = path_root hash index_of nonce registry (index_of name) proof map path ∙ sym root-is;
-      answered = end.said;
+      answered = end.stated;
     }

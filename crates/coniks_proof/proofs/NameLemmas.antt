@@ -100,19 +100,19 @@ overlaid-append registry (x ∷ xs) ys = overlaid-append (rebound registry x) xs
 
 -- ---- maps
 
-IsNew-kept : (hash index_of : List ℕ → List ℕ) (f : Registered → Bool) (index : List ℕ) (bs : Registry)
+IsNew-retained : (hash index_of : List ℕ → List ℕ) (f : Registered → Bool) (index : List ℕ) (bs : Registry)
     → IsNew index (entries_of hash index_of bs) → IsNew index (entries_of hash index_of (filter f bs))
-IsNew-kept hash index_of f index [] new = tt
-IsNew-kept hash index_of f index (b ∷ bs) new = elim (f b) as (λ v. IsNew index (entries_of hash index_of (cond v (b ∷ filter f bs) (filter f bs)))) [
-  | true ↦ (new.0, IsNew-kept hash index_of f index bs new.1)
-  | false ↦ IsNew-kept hash index_of f index bs new.1
+IsNew-retained hash index_of f index [] new = tt
+IsNew-retained hash index_of f index (b ∷ bs) new = elim (f b) as (λ v. IsNew index (entries_of hash index_of (cond v (b ∷ filter f bs) (filter f bs)))) [
+  | true ↦ (new.0, IsNew-retained hash index_of f index bs new.1)
+  | false ↦ IsNew-retained hash index_of f index bs new.1
 ]
 
-IsMap-kept : (hash index_of : List ℕ → List ℕ) (f : Registered → Bool) (bs : Registry) → IsMap (entries_of hash index_of bs) → IsMap (entries_of hash index_of (filter f bs))
-IsMap-kept hash index_of f [] map = tt
-IsMap-kept hash index_of f (b ∷ bs) map = elim (f b) as (λ v. IsMap (entries_of hash index_of (cond v (b ∷ filter f bs) (filter f bs)))) [
-  | true ↦ (map.0, IsNew-kept hash index_of f (index_of b.name) bs map.1, IsMap-kept hash index_of f bs map.2)
-  | false ↦ IsMap-kept hash index_of f bs map.2
+IsMap-retained : (hash index_of : List ℕ → List ℕ) (f : Registered → Bool) (bs : Registry) → IsMap (entries_of hash index_of bs) → IsMap (entries_of hash index_of (filter f bs))
+IsMap-retained hash index_of f [] map = tt
+IsMap-retained hash index_of f (b ∷ bs) map = elim (f b) as (λ v. IsMap (entries_of hash index_of (cond v (b ∷ filter f bs) (filter f bs)))) [
+  | true ↦ (map.0, IsNew-retained hash index_of f (index_of b.name) bs map.1, IsMap-retained hash index_of f bs map.2)
+  | false ↦ IsMap-retained hash index_of f bs map.2
 ]
 
 IsNew-one_more : (hash index_of : List ℕ → List ℕ) (index : List ℕ) (bs : Registry) (b : Registered)
@@ -131,9 +131,9 @@ IsMap-one_more hash index_of (c ∷ bs) b map index apart =
 pub IsMap-rebound : (hash index_of : List ℕ → List ℕ) (registry : Registry) (b : Registered) → IsMap (entries_of hash index_of registry) → IsIndex (index_of b.name)
     → ((c : Registered) → IsIn c registry → c.name ≢ b.name → index_of c.name ≢ index_of b.name) → IsMap (entries_of hash index_of (rebound registry b))
 IsMap-rebound hash index_of registry b map index apart =
-    let kept : Registered → Bool = λ x. not (bytes_eq x.name b.name) in
-    IsMap-one_more hash index_of (filter kept registry) b (IsMap-kept hash index_of kept registry map) index
-    (λ c there. apart c (of_filter c kept registry there) (not_named b c (passes c kept registry there)))
+    let retained : Registered → Bool = λ x. not (bytes_eq x.name b.name) in
+    IsMap-one_more hash index_of (filter retained registry) b (IsMap-retained hash index_of retained registry map) index
+    (λ c there. apart c (of_filter c retained registry there) (not_named b c (passes c retained registry there)))
 
 -- ---- clashes
 

@@ -26,38 +26,38 @@ there_index (c ∷ cs) index h = elim (or_cases (bytes_eq c.index index) (has_in
 
 module _ {B : Type 0} (es cs : List (Entry B)) where
   -- what stays of the old entries
-  abbrev kept : Entry B → Bool
-  kept x = not (has_index cs x.index)
+  abbrev retained : Entry B → Bool
+  retained x = not (has_index cs x.index)
 
   pub in_overwritten : (e : Entry B) → IsIn e (overwritten es cs) → IsIn e cs ⊎ (IsIn e es × (has_index cs e.index ≡ false))
   unfolding overwritten
-  in_overwritten e there = elim (IsIn-append e cs (filter kept es) there) [
+  in_overwritten e there = elim (IsIn-append e cs (filter retained es) there) [
     | inl new ↦ inl new
-    | inr old ↦ inr (of_filter e kept es old, not-true (has_index cs e.index) (passes e kept es old))
+    | inr old ↦ inr (of_filter e retained es old, not-true (has_index cs e.index) (passes e retained es old))
   ]
 
   pub overwritten_new : (e : Entry B) → IsIn e cs → IsIn e (overwritten es cs)
   unfolding overwritten
-  overwritten_new e there = IsIn-append_left e cs (filter kept es) there
+  overwritten_new e there = IsIn-append_left e cs (filter retained es) there
 
   pub overwritten_old : (e : Entry B) → IsIn e es → has_index cs e.index ≡ false → IsIn e (overwritten es cs)
   unfolding overwritten
-  overwritten_old e there off = IsIn-append_right e cs (filter kept es) (IsIn-filter e kept es (ap not off) there)
+  overwritten_old e there off = IsIn-append_right e cs (filter retained es) (IsIn-filter e retained es (ap not off) there)
 
   -- an index that an old entry has is still there
   pub overwritten_index : (e : Entry B) → IsIn e es → (x : Entry B) × IsIn x (overwritten es cs) × (x.index ≡ e.index)
   unfolding overwritten
-  overwritten_index e there = (elim (has_index cs e.index) as (λ v. has_index cs e.index ≡ v → (x : Entry B) × IsIn x (cs ++ filter kept es) × (x.index ≡ e.index)) [
-    | true ↦ λ on. let k = there_index cs e.index on in (k.0, IsIn-append_left k.0 cs (filter kept es) k.1, k.2)
+  overwritten_index e there = (elim (has_index cs e.index) as (λ v. has_index cs e.index ≡ v → (x : Entry B) × IsIn x (cs ++ filter retained es) × (x.index ≡ e.index)) [
+    | true ↦ λ on. let k = there_index cs e.index on in (k.0, IsIn-append_left k.0 cs (filter retained es) k.1, k.2)
     | false ↦ λ off. (e, overwritten_old e there off, refl)
   ]) refl
 
   -- a map overwritten by a map is a map
   pub IsMap-overwritten : IsMap es → IsMap cs → IsMap (overwritten es cs)
   unfolding overwritten
-  IsMap-overwritten old new = IsMap-append cs (filter kept es) new (IsMap-filter kept es old) (λ c e in_c in_e same.
+  IsMap-overwritten old new = IsMap-append cs (filter retained es) new (IsMap-filter retained es old) (λ c e in_c in_e same.
       let on = index_there cs c e.index in_c same in
-      let off = not-true (has_index cs e.index) (passes e kept es in_e) in cc)
+      let off = not-true (has_index cs e.index) (passes e retained es in_e) in cc)
 
 under_from-overwritten : {B : Type 0} (k : ℕ) (p : List Bool) (es cs : List (Entry B)) → under_from k p (overwritten es cs) ≡ overwritten (under_from k p es) (under_from k p cs)
 under_from-overwritten k [] es cs = refl

@@ -48,7 +48,7 @@ pub record Disagree (by : Hashing) (root index name_a : Octets) (a : Proof) (nam
   pub right : Accepts by root index name_b b (answer_of b.end)
   pub differ : answer_of a.end ≢ answer_of b.end
 
--- the end's own index, if it has one, is not the index asked for
+-- the end's own index, if it has one, is not the index requested
 abbrev pub KeepsOff : Octets → End → Type 0
 KeepsOff index Empty = Unit {0}
 KeepsOff index (Other other commitment) = other.0 ≢ index

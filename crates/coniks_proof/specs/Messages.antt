@@ -1,4 +1,4 @@
--- What is hashed for a node, kept until it is hashed.
+-- What is hashed for a node, retained until it is hashed.
 use Rattle.std.specs.Prelude.{◌≡◌, List, ◌∷◌, ◌++◌, map}
 use Rattle.coniks_proof.specs.Octets.{Octets}
 use Rattle.coniks_proof.specs.Preimages.{packed, inner_preimage}

@@ -48,7 +48,7 @@ answer_of Empty = None
 answer_of (Other other commitment) = None
 answer_of (Here name key opening) = Some key
 
--- what is asked of a proof before any hash
+-- what is required of a proof before any hash
 pub record IsWellFormed (index name : Octets) (proof : Proof) : Type 0 where
   pub depth : length proof.siblings ≤ MAX_LEVEL
   pub name_given : 0 < length name
@@ -62,6 +62,6 @@ pub record Accepts (by : Hashing) (root index name : Octets) (proof : Proof) (an
   pub answered : answer_of proof.end ≡ answer
 
 -- the key of an answer, or none
-abbrev pub said : Answer → Option Octets
-said (Key key) = Some key.now
-said Absent = None
+abbrev pub stated : Answer → Option Octets
+stated (Key key) = Some key.now
+stated Absent = None

@@ -6,11 +6,11 @@ ghost use Rattle.coniks_proof.specs.ProofRefs.{owned};
 ghost use Rattle.coniks_proof.specs.Faults.{EndHas, Has, IsFirst};
 ghost use Rattle.coniks_proof.specs.Hashing.{Hashing, hashing};
 ghost use Rattle.coniks_proof.specs.Octets.{Octets};
-ghost use Rattle.coniks_proof.specs.Proofs.{Accepts, EndFits, IsWellFormed, answer_of, said};
+ghost use Rattle.coniks_proof.specs.Proofs.{Accepts, EndFits, IsWellFormed, answer_of, stated};
 
 use crate::bits::bit;
 use crate::hashing::Hash32;
-use crate::paths::{Answer, Proof, carried};
+use crate::paths::{Answer, Proof, Spot, carried};
 use crate::proof_ref::{EndRef, ProofRef};
 use crate::values::{Digest, Index, MAX_KEY, MAX_LEVEL, MAX_NAME, Nonce};
 use thiserror::Error;
@@ -100,7 +100,7 @@ fn early_fault(index: &Index, name: &[u8], proof: &ProofRef<'_>) -> Option<Check
 
 /// Returns the answer that an end contains.
 fn answer_at<'a>(end: &EndRef<'a>) -> Answer<'a>
-    ensures { said result ≡ answer_of (owned end.now) }
+    ensures { stated result ≡ answer_of (owned end.now) }
 {
     match end {
         EndRef::Here {
@@ -125,7 +125,7 @@ fn answer_at<'a>(end: &EndRef<'a>) -> Answer<'a>
 /// - `NameLength` if the name is empty or longer than `MAX_NAME` bytes.
 /// - `KeyLength` if the proof's key is empty or longer than `MAX_KEY` bytes.
 /// - `WrongName` if the proof's leaf contains another name.
-/// - `OtherIsSame` if the leaf of another index has the asked index.
+/// - `OtherIsSame` if the leaf of another index has the requested index.
 /// - `OtherOffPath` if the other index does not begin with the path's bits.
 /// - `RootMismatch` if the path does not lead to the root.
 pub fn check_ref<'a, H: Hash32>(
@@ -136,16 +136,21 @@ pub fn check_ref<'a, H: Hash32>(
     name: &[u8],
     proof: &ProofRef<'a>,
 ) -> Result<Answer<'a>, CheckFault>
-    ensures accepted { IfOk result (λ answer. Accepts (hashing (H.digest_of h.now) nonce.now.0) root.now.0 index.now.0 name.now proof.now (said answer)) }
+    ensures accepted { IfOk result (λ answer. Accepts (hashing (H.digest_of h.now) nonce.now.0) root.now.0 index.now.0 name.now proof.now (stated answer)) }
     ensures exact { (answer : Option Octets) → Accepts (hashing (H.digest_of h.now) nonce.now.0) root.now.0 index.now.0 name.now proof.now answer
-        → IsOkAnd result (λ given. said given ≡ answer) }
+        → IsOkAnd result (λ given. stated given ≡ answer) }
     ensures refused { IfErr result (λ fault. IsFirst (Has (hashing (H.digest_of h.now) nonce.now.0) root.now.0 index.now.0 name.now proof.now) fault) }
 {
     if let Some(fault) = early_fault(index, name, proof) {
         return Err(fault);
     }
     let end = proof.end();
-    if carried(h, nonce, index, 0, &proof.siblings(), &end) != *root {
+    let spot = Spot {
+        nonce: *nonce,
+        index: *index,
+        level: 0,
+    };
+    if carried(h, &spot, &proof.siblings(), &end) != *root {
         return Err(CheckFault::RootMismatch);
     }
     Ok(answer_at(&end))
@@ -166,9 +171,9 @@ pub fn check<'a, H: Hash32>(
     name: &[u8],
     proof: &'a Proof,
 ) -> Result<Answer<'a>, CheckFault>
-    ensures accepted { IfOk result (λ answer. Accepts (hashing (H.digest_of h.now) nonce.now.0) root.now.0 index.now.0 name.now proof.now (said answer)) }
+    ensures accepted { IfOk result (λ answer. Accepts (hashing (H.digest_of h.now) nonce.now.0) root.now.0 index.now.0 name.now proof.now (stated answer)) }
     ensures exact { (answer : Option Octets) → Accepts (hashing (H.digest_of h.now) nonce.now.0) root.now.0 index.now.0 name.now proof.now answer
-        → IsOkAnd result (λ given. said given ≡ answer) }
+        → IsOkAnd result (λ given. stated given ≡ answer) }
     ensures refused { IfErr result (λ fault. IsFirst (Has (hashing (H.digest_of h.now) nonce.now.0) root.now.0 index.now.0 name.now proof.now) fault) }
 {
     check_ref(h, nonce, root, index, name, &proof.borrowed())

@@ -3,14 +3,14 @@
 ghost use Rattle.std.specs.Prelude.{◌≡◌, ◌↔◌, IsTrue, IfOk, IsOk, MatchOption};
 ghost use Rattle.coniks_proof.specs.Collisions.{Disagree, FirstDiffer, IsCollision, hashed};
 ghost use Rattle.coniks_proof.specs.Hashing.{hashing};
-ghost use Rattle.coniks_proof.specs.Proofs.{said};
+ghost use Rattle.coniks_proof.specs.Proofs.{stated};
 
 use crate::bytes::Bytes;
 use crate::checker::check;
 use crate::hashing::Hash32;
 use crate::meeting::parted;
 use crate::memory::OutOfMemory;
-use crate::paths::{Answer, Proof};
+use crate::paths::{Answer, Proof, Spot};
 use crate::preimages::Way;
 use crate::values::{Digest, Index, Nonce};
 use std::alloc::Global;
@@ -23,8 +23,8 @@ pub struct Collision {
 }
 
 /// Returns whether two answers are equal.
-fn same_answer(a: &Answer<'_>, b: &Answer<'_>) -> bool
-    ensures { IsTrue result ↔ (said a.now ≡ said b.now) }
+pub fn same_answer(a: &Answer<'_>, b: &Answer<'_>) -> bool
+    ensures { IsTrue result ↔ (stated a.now ≡ stated b.now) }
 {
     match (a, b) {
         (Answer::Absent, Answer::Absent) => true,
@@ -33,7 +33,7 @@ fn same_answer(a: &Answer<'_>, b: &Answer<'_>) -> bool
     }
 }
 
-/// Returns a collision of the hash if two proofs, each with the name that it is asked for, are accepted for one root, nonce
+/// Returns a collision of the hash if two proofs, each with its requested name, are accepted for one root, nonce
 /// and index with different answers, and else `None`. The byte strings are the first two that differ, from the root down, of
 /// those that the proofs hash: `x` is hashed in the first proof's path and `y` in the second's. If no node differs, they
 /// are the preimages of the two commitments (CONIKS, section 3.1: a commitment binds the directory to one key).
@@ -82,6 +82,11 @@ pub fn extract<H: Hash32>(
         siblings: b.siblings.as_slice(),
         end: &b.end,
     };
-    let (x, y) = parted(alloc, h, nonce, index, way_a, way_b)?;
+    let spot = Spot {
+        nonce: *nonce,
+        index: *index,
+        level: 0,
+    };
+    let (x, y) = parted(alloc, h, &spot, way_a, way_b)?;
     Ok(Some(Collision { x, y }))
 }

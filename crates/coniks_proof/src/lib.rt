@@ -9,8 +9,8 @@
 //! `INDEX` are your own hash and index source:
 //!
 //! ```rust
-//! let index = INDEX.index(asked);
-//! match check(&TaggedHash, &NONCE, &root, &index, asked, &proof)? {
+//! let index = INDEX.index(requested);
+//! match check(&TaggedHash, &NONCE, &root, &index, requested, &proof)? {
 //!     Answer::Key(key) => println!(rt; "{name} at epoch {epoch}: a key of {} bytes", key.len())?,
 //!     Answer::Absent => println!(rt; "{name} at epoch {epoch}: not registered")?,
 //! }
@@ -35,14 +35,14 @@ pub mod wire;
 pub use bits::{Prefix, bit};
 pub use bytes::{Binding, Bytes, Digests};
 pub use checker::{CheckFault, check, check_ref};
-pub use collision::{Collision, extract};
+pub use collision::{Collision, extract, same_answer};
 pub use hashing::{
     CommitmentPreimage, Flat, Hash32, Sha256Hash, commit_hash, commit_hash_eight, commit_hash_four,
     empty_hash, inner_hash, leaf_hash,
 };
 pub use memory::OutOfMemory;
 pub use messages::{Message, empty_message, hash_all, leaf_message};
-pub use paths::{Answer, End, Proof};
+pub use paths::{Answer, End, Proof, Spot};
 pub use proof_ref::{EndRef, ProofRef, Siblings};
 pub use values::{
     Digest, Head, Index, MAX_KEY, MAX_LEVEL, MAX_NAME, MAX_OPERATIONS, Nonce, Opening,

@@ -1,18 +1,18 @@
 //! The position at which two ways to one index differ. Both ways are climbed once, and it is found on the way up.
 
-ghost use Rattle.std.specs.Prelude.{◌≡◌, ◌≢◌, ◌+◌, ◌≤◌, ◌↔◌, ◌⊎◌, length, IsTrue, IfOk};
-ghost use Rattle.coniks_proof.specs.Collisions.{IsSized, KeepsOff, Parts};
+ghost use Rattle.std.specs.Prelude.{◌≡◌, ◌↔◌, ◌⊎◌, length, IsTrue, IfOk};
+ghost use Rattle.coniks_proof.specs.Collisions.{IsSized, Parts};
 ghost use Rattle.coniks_proof.specs.Hashing.{hashing};
-ghost use Rattle.coniks_proof.specs.Meetings.{CommitmentIs, PartsAt, PlaceFits};
-ghost use Rattle.coniks_proof.specs.Proofs.{LengthsFit, answer_of, end_preimage, preimage};
+ghost use Rattle.coniks_proof.specs.Meetings.{CommitmentIs, Contradict, Meets, PartsAt, PlaceFits};
+ghost use Rattle.coniks_proof.specs.Proofs.{LengthsFit, end_preimage};
 
 use crate::bits::bit;
 use crate::bytes::Bytes;
 use crate::hashing::{Hash32, commit_hash};
-use crate::paths::{End, carried, joined_hash};
+use crate::paths::{End, Spot, carried, joined_hash};
 use crate::preimages::{Way, committed_bytes, level_bytes};
 use crate::proof_ref::Siblings;
-use crate::values::{Digest, Index, MAX_LEVEL, Nonce, in_range};
+use crate::values::{Digest, in_range};
 use std::alloc::{AllocError, Global};
 
 /// The position at which two ways to one index differ.
@@ -70,28 +70,17 @@ fn commitment_of<H: Hash32>(h: &H, end: &End) -> Option<Digest>
     }
 }
 
-/// Returns whether two ends at one level, of different answers, hash the same bytes: two leaves of one commitment.
-fn same_ends<H: Hash32>(
-    h: &H,
-    nonce: &Nonce,
-    index: &Index,
-    level: usize,
-    end_a: &End,
-    end_b: &End,
-) -> bool
-    requires fits_a { LengthsFit end_a.now }
-    requires fits_b { LengthsFit end_b.now }
-    requires off_a { KeepsOff index.now.0 end_a.now }
-    requires off_b { KeepsOff index.now.0 end_b.now }
-    requires answers { answer_of end_a.now ≢ answer_of end_b.now }
-    ensures { IsTrue result ↔ (end_preimage (hashing (H.digest_of h.now) nonce.now.0) index.now.0 level
-        end_a.now ≡ end_preimage (hashing (H.digest_of h.now) nonce.now.0) index.now.0 level end_b.now) }
+/// Returns whether the ends of two ways, of different answers, hash the same bytes at a level: two leaves of one commitment.
+fn same_ends<H: Hash32>(h: &H, spot: &Spot, a: Way<'_>, b: Way<'_>) -> bool
+    requires { Contradict spot.now.index.0 spot.now.level a.siblings.now a.end.now b.siblings.now b.end.now }
+    ensures { IsTrue result ↔ (end_preimage (hashing (H.digest_of h.now) spot.now.nonce.0) spot.now.index.0 spot.now.level
+        a.entry.end.now ≡ end_preimage (hashing (H.digest_of h.now) spot.now.nonce.0) spot.now.index.0 spot.now.level b.entry.end.now) }
 {
-    in_range(&index.0);
-    sized(end_a);
-    sized(end_b);
-    let commitment_a = commitment_of(h, end_a);
-    let commitment_b = commitment_of(h, end_b);
+    in_range(&spot.index.0);
+    sized(a.end);
+    sized(b.end);
+    let commitment_a = commitment_of(h, a.end);
+    let commitment_b = commitment_of(h, b.end);
     match (commitment_a, commitment_b) {
         (Some(a), Some(b)) => a == b,
         _ => false,
@@ -106,31 +95,18 @@ fn same_pairs(a: &Digest, b: &Digest, c: &Digest, d: &Digest) -> bool
 }
 
 /// Returns the position at which two ways differ, if one of them ends at this level.
-fn end_place<'a, H: Hash32>(
-    h: &H,
-    nonce: &Nonce,
-    index: &Index,
-    level: usize,
-    a: Way<'a>,
-    b: Way<'a>,
-) -> Place<'a>
-    requires deep_a { level + length a.siblings.now ≤ MAX_LEVEL }
-    requires deep_b { level + length b.siblings.now ≤ MAX_LEVEL }
-    requires fits_a { LengthsFit a.end.now }
-    requires fits_b { LengthsFit b.end.now }
-    requires off_a { KeepsOff index.now.0 a.end.now }
-    requires off_b { KeepsOff index.now.0 b.end.now }
-    requires answers { answer_of a.end.now ≢ answer_of b.end.now }
+fn end_place<'a, H: Hash32>(h: &H, spot: &Spot, a: Way<'a>, b: Way<'a>) -> Place<'a>
+    requires ways { Contradict spot.now.index.0 spot.now.level a.siblings.now a.end.now b.siblings.now b.end.now }
     requires ends { (length a.siblings.now ≡ 0) ⊎ (length b.siblings.now ≡ 0) }
     ensures fits { PlaceFits result }
-    ensures place { PartsAt (hashing (H.digest_of h.now) nonce.now.0) index.now.0 level
+    ensures place { PartsAt (hashing (H.digest_of h.now) spot.now.nonce.0) spot.now.index.0 spot.now.level
         a.entry.siblings.now a.entry.end.now b.entry.siblings.now b.entry.end.now result }
 {
-    in_range(&index.0);
+    in_range(&spot.index.0);
     sized(a.end);
     sized(b.end);
     let here = Place::Level {
-        level,
+        level: spot.level,
         siblings_a: a.siblings,
         siblings_b: b.siblings,
     };
@@ -140,71 +116,39 @@ fn end_place<'a, H: Hash32>(
     if !b.siblings.is_empty() {
         return here;
     }
-    if same_ends(h, nonce, index, level, a.end, b.end) {
+    if same_ends(h, spot, a, b) {
         return Place::Commitments;
     }
     here
 }
 
 /// Compares two ways if one of them ends at this level.
-fn ending<'a, H: Hash32>(
-    h: &H,
-    nonce: &Nonce,
-    index: &Index,
-    level: usize,
-    a: Way<'a>,
-    b: Way<'a>,
-) -> Meeting<'a>
-    requires deep_a { level + length a.siblings.now ≤ MAX_LEVEL }
-    requires deep_b { level + length b.siblings.now ≤ MAX_LEVEL }
-    requires fits_a { LengthsFit a.end.now }
-    requires fits_b { LengthsFit b.end.now }
-    requires off_a { KeepsOff index.now.0 a.end.now }
-    requires off_b { KeepsOff index.now.0 b.end.now }
-    requires answers { answer_of a.end.now ≢ answer_of b.end.now }
+fn ending<'a, H: Hash32>(h: &H, spot: &Spot, a: Way<'a>, b: Way<'a>) -> Meeting<'a>
+    requires ways { Contradict spot.now.index.0 spot.now.level a.siblings.now a.end.now b.siblings.now b.end.now }
     requires ends { (length a.siblings.now ≡ 0) ⊎ (length b.siblings.now ≡ 0) }
-    ensures a { result.a.0 ≡ H.digest_of h.now (preimage (hashing (H.digest_of h.now) nonce.now.0) index.now.0 level a.entry.siblings.now a.entry.end.now) }
-    ensures b { result.b.0 ≡ H.digest_of h.now (preimage (hashing (H.digest_of h.now) nonce.now.0) index.now.0 level b.entry.siblings.now b.entry.end.now) }
-    ensures fits { PlaceFits result.place }
-    ensures place { PartsAt (hashing (H.digest_of h.now) nonce.now.0) index.now.0 level
-        a.entry.siblings.now a.entry.end.now b.entry.siblings.now b.entry.end.now result.place }
+    ensures { Meets (hashing (H.digest_of h.now) spot.now.nonce.0) spot.now.index.0 spot.now.level
+        a.entry.siblings.now a.entry.end.now b.entry.siblings.now b.entry.end.now result }
 {
     let siblings_a = Siblings::Listed(a.siblings);
     let siblings_b = Siblings::Listed(b.siblings);
     Meeting {
-        a: carried(h, nonce, index, level, &siblings_a, &a.end.borrowed()),
-        b: carried(h, nonce, index, level, &siblings_b, &b.end.borrowed()),
-        place: end_place(h, nonce, index, level, a, b),
+        a: carried(h, spot, &siblings_a, &a.end.borrowed()),
+        b: carried(h, spot, &siblings_b, &b.end.borrowed()),
+        place: end_place(h, spot, a, b),
     }
 }
 
 /// Climbs two ways to one index from their ends to a level.
-fn meet<'a, H: Hash32>(
-    h: &H,
-    nonce: &Nonce,
-    index: &Index,
-    level: usize,
-    a: Way<'a>,
-    b: Way<'a>,
-) -> Meeting<'a>
-    requires deep_a { level + length a.siblings.now ≤ MAX_LEVEL }
-    requires deep_b { level + length b.siblings.now ≤ MAX_LEVEL }
-    requires fits_a { LengthsFit a.end.now }
-    requires fits_b { LengthsFit b.end.now }
-    requires off_a { KeepsOff index.now.0 a.end.now }
-    requires off_b { KeepsOff index.now.0 b.end.now }
-    requires answers { answer_of a.end.now ≢ answer_of b.end.now }
-    ensures a { result.a.0 ≡ H.digest_of h.now (preimage (hashing (H.digest_of h.now) nonce.now.0) index.now.0 level a.entry.siblings.now a.entry.end.now) }
-    ensures b { result.b.0 ≡ H.digest_of h.now (preimage (hashing (H.digest_of h.now) nonce.now.0) index.now.0 level b.entry.siblings.now b.entry.end.now) }
-    ensures fits { PlaceFits result.place }
-    ensures place { PartsAt (hashing (H.digest_of h.now) nonce.now.0) index.now.0 level
-        a.entry.siblings.now a.entry.end.now b.entry.siblings.now b.entry.end.now result.place }
+fn meet<'a, H: Hash32>(h: &H, spot: &Spot, a: Way<'a>, b: Way<'a>) -> Meeting<'a>
+    requires { Contradict spot.now.index.0 spot.now.level a.siblings.now a.end.now b.siblings.now b.end.now }
+    ensures { Meets (hashing (H.digest_of h.now) spot.now.nonce.0) spot.now.index.0 spot.now.level
+        a.entry.siblings.now a.entry.end.now b.entry.siblings.now b.entry.end.now result }
 {
     let Some((first_a, rest_a)) = a.siblings.split_first() else {
-        return ending(h, nonce, index, level, a, b);
+        return ending(h, spot, a, b);
     };
     let Some((first_b, rest_b)) = b.siblings.split_first() else {
-        return ending(h, nonce, index, level, a, b);
+        return ending(h, spot, a, b);
     };
     let below_a = Way {
         siblings: rest_a,
@@ -214,10 +158,14 @@ fn meet<'a, H: Hash32>(
         siblings: rest_b,
         end: b.end,
     };
-    let below = meet(h, nonce, index, level + 1, below_a, below_b);
+    let below_spot = Spot {
+        level: spot.level + 1,
+        ..*spot
+    };
+    let below = meet(h, &below_spot, below_a, below_b);
     in_range(&first_a.0);
     in_range(&first_b.0);
-    let goes_right = bit(index, level);
+    let goes_right = bit(&spot.index, spot.level);
     let hash_a = joined_hash(h, goes_right, first_a, &below.a);
     let hash_b = joined_hash(h, goes_right, first_b, &below.b);
     if same_pairs(first_a, first_b, &below.a, &below.b) {
@@ -231,33 +179,26 @@ fn meet<'a, H: Hash32>(
         a: hash_a,
         b: hash_b,
         place: Place::Level {
-            level,
+            level: spot.level,
             siblings_a: a.siblings,
             siblings_b: b.siblings,
         },
     }
 }
 
-/// Returns the byte strings at the position where two ways from the root differ, the first from the first way.
+/// Returns the byte strings at the position where two ways from a level differ, the first from the first way.
 pub(crate) fn parted<H: Hash32>(
     alloc: Global,
     h: &H,
-    nonce: &Nonce,
-    index: &Index,
+    spot: &Spot,
     a: Way<'_>,
     b: Way<'_>,
 ) -> Result<(Bytes, Bytes), AllocError>
-    requires deep_a { length a.siblings.now ≤ MAX_LEVEL }
-    requires deep_b { length b.siblings.now ≤ MAX_LEVEL }
-    requires fits_a { LengthsFit a.end.now }
-    requires fits_b { LengthsFit b.end.now }
-    requires off_a { KeepsOff index.now.0 a.end.now }
-    requires off_b { KeepsOff index.now.0 b.end.now }
-    requires answers { answer_of a.end.now ≢ answer_of b.end.now }
-    ensures { IfOk result (λ found. Parts (hashing (H.digest_of h.now) nonce.now.0) index.now.0 0
+    requires { Contradict spot.now.index.0 spot.now.level a.siblings.now a.end.now b.siblings.now b.end.now }
+    ensures { IfOk result (λ found. Parts (hashing (H.digest_of h.now) spot.now.nonce.0) spot.now.index.0 spot.now.level
         a.entry.siblings.now a.entry.end.now b.entry.siblings.now b.entry.end.now found.0 found.1) }
 {
-    match meet(h, nonce, index, 0, a, b).place {
+    match meet(h, spot, a, b).place {
         Place::Commitments => {
             let x = committed_bytes(alloc, a.end)?;
             let y = committed_bytes(alloc, b.end)?;
@@ -268,6 +209,7 @@ pub(crate) fn parted<H: Hash32>(
             siblings_a,
             siblings_b,
         } => {
+            let there = Spot { level, ..*spot };
             let a = Way {
                 siblings: siblings_a,
                 end: a.end,
@@ -276,8 +218,8 @@ pub(crate) fn parted<H: Hash32>(
                 siblings: siblings_b,
                 end: b.end,
             };
-            let x = level_bytes(alloc, h, nonce, index, level, a)?;
-            let y = level_bytes(alloc, h, nonce, index, level, b)?;
+            let x = level_bytes(alloc, h, &there, a)?;
+            let y = level_bytes(alloc, h, &there, b)?;
             Ok((x, y))
         }
     }

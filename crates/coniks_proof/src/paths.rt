@@ -22,7 +22,7 @@ pub enum End {
         index: Index,
         commitment: Digest,
     },
-    /// The leaf of the asked index, with the opening of its commitment.
+    /// The leaf of the requested index, with the opening of its commitment.
     Here {
         name: Bytes,
         key: Bytes,
@@ -38,13 +38,21 @@ pub struct Proof {
     pub end: End,
 }
 
-/// The answer of an accepted proof about the asked name.
+/// The answer of an accepted proof about the requested name.
 #[derive(Clone, Copy, Debug, PartialEq, Eq)]
 pub enum Answer<'a> {
     /// The name is bound to this key, which the proof contains.
     Key(&'a [u8]),
     /// The name is bound to no key.
     Absent,
+}
+
+/// A level on the way to an index, in a tree with a nonce.
+#[derive(Clone, Copy)]
+pub struct Spot {
+    pub nonce: Nonce,
+    pub index: Index,
+    pub level: usize,
 }
 
 /// Returns the hash of the end of a path, at a level.
@@ -93,21 +101,24 @@ pub(crate) fn joined_hash<H: Hash32>(
 /// It is carried up from the end over the siblings below, the deepest first.
 pub(crate) fn carried<H: Hash32>(
     h: &H,
-    nonce: &Nonce,
-    index: &Index,
-    level: usize,
+    spot: &Spot,
     siblings: &Siblings<'_>,
     end: &EndRef<'_>,
 ) -> Digest
-    requires deep { level + length (listed siblings.now) ≤ MAX_LEVEL }
+    requires deep { spot.now.level + length (listed siblings.now) ≤ MAX_LEVEL }
     requires fits { LengthsFit (owned end.now) }
-    ensures { result.0 ≡ H.digest_of h.now (preimage (hashing (H.digest_of h.now) nonce.now.0) index.now.0 level (listed siblings.now) (owned end.now)) }
+    ensures { result.0 ≡ H.digest_of h.now (preimage (hashing (H.digest_of h.now) spot.now.nonce.0) spot.now.index.0 spot.now.level (listed siblings.now) (owned end.now)) }
 {
+    let Spot {
+        nonce,
+        index,
+        level,
+    } = spot;
     let mut place = siblings.len();
-    let mut hash = end_hash(h, nonce, index, level + place, end);
+    let mut hash = end_hash(h, nonce, index, *level + place, end);
     while place > 0 {
         place -= 1;
-        hash = joined_hash(h, bit(index, level + place), &siblings.at(place), &hash);
+        hash = joined_hash(h, bit(index, *level + place), &siblings.at(place), &hash);
     }
     hash
 }

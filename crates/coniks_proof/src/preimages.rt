@@ -9,7 +9,7 @@ ghost use Rattle.coniks_proof.specs.Proofs.{LengthsFit, end_preimage, joined, pr
 use crate::bits::{Prefix, bit};
 use crate::bytes::Bytes;
 use crate::hashing::{CommitmentPreimage, EMPTY_TAG, Hash32, INNER_TAG, LEAF_TAG, commit_hash};
-use crate::paths::{End, carried};
+use crate::paths::{End, Spot, carried};
 use crate::proof_ref::Siblings;
 use crate::values::{Digest, Index, MAX_KEY, MAX_LEVEL, MAX_NAME, Nonce, Opening};
 use std::alloc::{AllocError, Global};
@@ -101,27 +101,19 @@ pub(crate) fn committed_bytes(alloc: Global, end: &End) -> Result<Bytes, AllocEr
 }
 
 /// Returns the preimage at the end of a path, at a level.
-fn end_bytes<H: Hash32>(
-    alloc: Global,
-    h: &H,
-    nonce: &Nonce,
-    index: &Index,
-    level: usize,
-    end: &End,
-) -> Result<Bytes, AllocError>
-    requires level { level ≤ MAX_LEVEL }
+fn end_bytes<H: Hash32>(alloc: Global, h: &H, spot: &Spot, end: &End) -> Result<Bytes, AllocError>
+    requires level { spot.now.level ≤ MAX_LEVEL }
     requires fits { LengthsFit end.now }
-    ensures { IfOk result (λ bytes. bytes ≡ end_preimage (hashing (H.digest_of h.now) nonce.now.0) index.now.0 level end.now) }
+    ensures { IfOk result (λ bytes. bytes ≡ end_preimage (hashing (H.digest_of h.now) spot.now.nonce.0) spot.now.index.0 spot.now.level end.now) }
 {
     match end {
-        End::Empty => empty_bytes(alloc, nonce, &Prefix::of(index, level)),
-        End::Other {
-            index: other,
-            commitment,
-        } => leaf_bytes(alloc, nonce, other, level, commitment),
+        End::Empty => empty_bytes(alloc, &spot.nonce, &Prefix::of(&spot.index, spot.level)),
+        End::Other { index, commitment } => {
+            leaf_bytes(alloc, &spot.nonce, index, spot.level, commitment)
+        }
         End::Here { name, key, opening } => {
             let commitment = commit_hash(h, opening, name.as_slice(), key.as_slice());
-            leaf_bytes(alloc, nonce, index, level, &commitment)
+            leaf_bytes(alloc, &spot.nonce, &spot.index, spot.level, &commitment)
         }
     }
 }
@@ -130,21 +122,23 @@ fn end_bytes<H: Hash32>(
 pub(crate) fn level_bytes<H: Hash32>(
     alloc: Global,
     h: &H,
-    nonce: &Nonce,
-    index: &Index,
-    level: usize,
+    spot: &Spot,
     way: Way<'_>,
 ) -> Result<Bytes, AllocError>
-    requires deep { level + length way.siblings.now ≤ MAX_LEVEL }
+    requires deep { spot.now.level + length way.siblings.now ≤ MAX_LEVEL }
     requires fits { LengthsFit way.end.now }
-    ensures { IfOk result (λ bytes. bytes ≡ preimage (hashing (H.digest_of h.now) nonce.now.0) index.now.0 level way.entry.siblings.now way.entry.end.now) }
+    ensures { IfOk result (λ bytes. bytes ≡ preimage (hashing (H.digest_of h.now) spot.now.nonce.0) spot.now.index.0 spot.now.level way.entry.siblings.now way.entry.end.now) }
 {
     match way.siblings.split_first() {
-        None => end_bytes(alloc, h, nonce, index, level, way.end),
+        None => end_bytes(alloc, h, spot, way.end),
         Some((sibling, rest)) => {
             let rest = Siblings::Listed(rest);
-            let below = carried(h, nonce, index, level + 1, &rest, &way.end.borrowed());
-            joined_bytes(alloc, bit(index, level), sibling, &below)
+            let below_spot = Spot {
+                level: spot.level + 1,
+                ..*spot
+            };
+            let below = carried(h, &below_spot, &rest, &way.end.borrowed());
+            joined_bytes(alloc, bit(&spot.index, spot.level), sibling, &below)
         }
     }
 }

@@ -26,7 +26,7 @@ pub enum EndRef<'a> {
         index: Index,
         commitment: Digest,
     },
-    /// The leaf of the asked index, with the opening of its commitment.
+    /// The leaf of the requested index, with the opening of its commitment.
     Here {
         name: &'a [u8],
         key: &'a [u8],

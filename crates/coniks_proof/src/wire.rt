@@ -20,7 +20,7 @@ const EMPTY_KIND: u8 = 0;
 /// The first byte of a proof that ends with the leaf of another index.
 const OTHER_KIND: u8 = 1;
 
-/// The first byte of a proof that ends with the leaf of the asked index.
+/// The first byte of a proof that ends with the leaf of the requested index.
 const HERE_KIND: u8 = 2;
 
 /// The error of bytes that are no proof. If several apply, the first in declaration order is returned.
@@ -121,7 +121,7 @@ fn read_other(bytes: &[u8]) -> Result<(EndRef<'_>, &[u8]), WireFault>
     Ok((EndRef::Other { index, commitment }, rest))
 }
 
-/// Returns the leaf of the asked index that bytes begin with, and the bytes after it.
+/// Returns the leaf of the requested index that bytes begin with, and the bytes after it.
 fn read_here(bytes: &[u8]) -> Result<(EndRef<'_>, &[u8]), WireFault>
     ensures found { IfOk result (λ end. IsEndOf bytes.now 2 (owned end.0) end.1.now) }
     ensures refused { IfErr result (λ fault. IsFirstFault (EndHas 2 bytes.now) fault) }
@@ -137,7 +137,7 @@ fn read_here(bytes: &[u8]) -> Result<(EndRef<'_>, &[u8]), WireFault>
 }
 
 /// Returns the end of this kind that bytes begin with, and the bytes after it: kind 0 is an empty node, 1 the leaf of another
-/// index, 2 the leaf of the asked one. The name and the key are borrowed from the bytes.
+/// index, 2 the leaf of the requested one. The name and the key are borrowed from the bytes.
 ///
 /// # Errors
 ///

@@ -26,7 +26,7 @@ one_up by index level siblings end k m s below above next there is up =
 pub loop-place-preserved : goal.loop-place-preserved
 loop-place-preserved g c = (
   omega (arith, c.loop-place.invariant.0),
-  one_up (hashing (g.H.Hash32.digest_of c.args.h.now) c.args.nonce.now.0) c.args.index.now.0 c.args.level (listed c.args.siblings.now) (owned c.args.end.now)
+  one_up (hashing (g.H.Hash32.digest_of c.args.h.now) c.args.spot.now.nonce.0) c.args.spot.now.index.0 c.args.spot.now.level (listed c.args.siblings.now) (owned c.args.end.now)
       (c.loop-place.place - 1) c.loop-place.place
       c.at.result _ _ (omega arith) c.at.ensures c.loop-place.invariant.1 (rw (← c.bit.ensures) c.joined_hash-hash.ensures),
 )

@@ -8,7 +8,7 @@ use Rattle.coniks_proof.proofs.paths.carried.Given as goal
 abbrev pub invariant-loop-place : goal.invariant-loop-place
 invariant-loop-place g l = let digest = g.H.Hash32.digest_of l.fn.h in
     (l.place ≤ length (listed l.siblings))
-    × (l.hash.0 ≡ digest (preimage (hashing digest l.nonce.0) l.index.0 (l.level + l.place) (drop l.place (listed l.siblings)) (owned l.end)))
+    × (l.hash.0 ≡ digest (preimage (hashing digest l.spot.nonce.0) l.spot.index.0 (l.spot.level + l.place) (drop l.place (listed l.siblings)) (owned l.end)))
 
 abbrev pub decreases-loop-place : goal.decreases-loop-place
 decreases-loop-place g l = l.place
