@@ -6,7 +6,7 @@ use Rattle.coniks_proof.specs.Hashing.{Hashing}
 use Rattle.coniks_proof.specs.Preimages.{empty_preimage, leaf_preimage}
 use Rattle.coniks_tree.specs.Table.{Table}
 use Rattle.coniks_proof.specs.declared.values.Digest.{Digest}
-use Rattle.coniks_tree.specs.Joins.{AllHalved, AllJoined, IsHalved, IsHashAt, IsJoined, PairFits, PairsFit, asked_at, asked_of, inner_of}
+use Rattle.coniks_tree.specs.Joins.{AllHalved, AllJoined, IsHalved, IsHashAt, IsJoined, PairFits, PairsFit, requested_at, requested_of, inner_of}
 use Rattle.coniks_tree.proofs.PartLemmas.{hash_nothing, hash_entry}
 use Rattle.coniks_tree.specs.declared.part.Change.{Change}
 use Rattle.coniks_tree.specs.declared.part.Part.{Part, Nothing, Entry, Kept, Made'}
@@ -18,43 +18,43 @@ same_front x y xs ys same = (cc, cc)
 
 -- an empty side takes the first of the hashes
 pub side_nothing : (by : Hashing) (t : Table) (part : Part) (p : List Bool) (rest : List (List ℕ)) (old new : List Digest) (d : Digest)
-    → part ≡ Nothing → old ≡ d ∷ new → map (λ x. x.0) old ≡ map by.hash (asked_at by.nonce p part ++ rest)
+    → part ≡ Nothing → old ≡ d ∷ new → map (λ x. x.0) old ≡ map by.hash (requested_at by.nonce p part ++ rest)
     → IsHashAt by t p part d × (map (λ x. x.0) new ≡ map by.hash rest)
-side_nothing by t part p rest old new d is old-is asked =
+side_nothing by t part p rest old new d is old-is requested =
     let first = same_front d.0 (by.hash (empty_preimage by.nonce p)) (map (λ x. x.0) new) (map by.hash rest)
-    (sym (ap (map (λ x. x.0)) old-is) ∙ asked ∙ ap (λ q. map by.hash (asked_at by.nonce p q ++ rest)) is) in
+    (sym (ap (map (λ x. x.0)) old-is) ∙ requested ∙ ap (λ q. map by.hash (requested_at by.nonce p q ++ rest)) is) in
     (λ es s. hash_nothing by t part p es d.0 is first.0 s, first.1)
 
 -- a leaf takes the first of the hashes
 pub side_entry : (by : Hashing) (t : Table) (part : Part) (p : List Bool) (rest : List (List ℕ)) (old new : List Digest) (d : Digest) (c : Change)
-    → part ≡ Entry c → old ≡ d ∷ new → map (λ x. x.0) old ≡ map by.hash (asked_at by.nonce p part ++ rest)
+    → part ≡ Entry c → old ≡ d ∷ new → map (λ x. x.0) old ≡ map by.hash (requested_at by.nonce p part ++ rest)
     → IsHashAt by t p part d × (map (λ x. x.0) new ≡ map by.hash rest)
-side_entry by t part p rest old new d c is old-is asked =
+side_entry by t part p rest old new d c is old-is requested =
     let first = same_front d.0 (by.hash (leaf_preimage by.nonce c.index.0 (length p) c.commitment.0)) (map (λ x. x.0) new) (map by.hash rest)
-    (sym (ap (map (λ x. x.0)) old-is) ∙ asked ∙ ap (λ q. map by.hash (asked_at by.nonce p q ++ rest)) is) in
+    (sym (ap (map (λ x. x.0)) old-is) ∙ requested ∙ ap (λ q. map by.hash (requested_at by.nonce p q ++ rest)) is) in
     (λ es s. hash_entry by t part p es d.0 c (length p) is refl first.0 s, first.1)
 
 -- the number of messages to hash does not depend on the nonce or the prefix
-pub asked_at-length : (nonce : List ℕ) (p : List Bool) (part : Part) → length (asked_at nonce p part) ≡ length (asked_at [] [] part)
-asked_at-length nonce p Nothing = refl
-asked_at-length nonce p (Entry c) = refl
-asked_at-length nonce p (Kept root) = refl
-asked_at-length nonce p (Made' ptr d lh rh count l r) = refl
+pub requested_at-length : (nonce : List ℕ) (p : List Bool) (part : Part) → length (requested_at nonce p part) ≡ length (requested_at [] [] part)
+requested_at-length nonce p Nothing = refl
+requested_at-length nonce p (Entry c) = refl
+requested_at-length nonce p (Kept root) = refl
+requested_at-length nonce p (Made' ptr d lh rh count l r) = refl
 
-pub asked_of-length : (nonce : List ℕ) (pairs : List Pair) → length (asked_of nonce pairs) ≡ length (asked_of [] pairs)
-asked_of-length nonce [] = refl
-asked_of-length nonce (pair ∷ pairs) =
+pub requested_of-length : (nonce : List ℕ) (pairs : List Pair) → length (requested_of nonce pairs) ≡ length (requested_of [] pairs)
+requested_of-length nonce [] = refl
+requested_of-length nonce (pair ∷ pairs) =
     omega (
       arith,
-      length-append (asked_at nonce (child pair.prefix false) pair.left) (asked_at nonce (child pair.prefix true) pair.right ++ asked_of nonce pairs),
-      length-append (asked_at nonce (child pair.prefix true) pair.right) (asked_of nonce pairs),
-      length-append (asked_at [] (child pair.prefix false) pair.left) (asked_at [] (child pair.prefix true) pair.right ++ asked_of [] pairs),
-      length-append (asked_at [] (child pair.prefix true) pair.right) (asked_of [] pairs),
-      asked_at-length nonce (child pair.prefix false) pair.left,
-      asked_at-length nonce (child pair.prefix true) pair.right,
-      asked_at-length [] (child pair.prefix false) pair.left,
-      asked_at-length [] (child pair.prefix true) pair.right,
-      asked_of-length nonce pairs,
+      length-append (requested_at nonce (child pair.prefix false) pair.left) (requested_at nonce (child pair.prefix true) pair.right ++ requested_of nonce pairs),
+      length-append (requested_at nonce (child pair.prefix true) pair.right) (requested_of nonce pairs),
+      length-append (requested_at [] (child pair.prefix false) pair.left) (requested_at [] (child pair.prefix true) pair.right ++ requested_of [] pairs),
+      length-append (requested_at [] (child pair.prefix true) pair.right) (requested_of [] pairs),
+      requested_at-length nonce (child pair.prefix false) pair.left,
+      requested_at-length nonce (child pair.prefix true) pair.right,
+      requested_at-length [] (child pair.prefix false) pair.left,
+      requested_at-length [] (child pair.prefix true) pair.right,
+      requested_of-length nonce pairs,
     )
 
 -- ---- the pairs get their hashes
@@ -65,22 +65,22 @@ AllHalved-push by t [] h all one = (one, tt)
 AllHalved-push by t (x ∷ hs) h all one = (all.0, AllHalved-push by t hs h all.1 one)
 
 -- the messages to hash for the sides of pairs: those of the first pair, and those of the others
-asked-parted : (before rest : List Pair) (pair : Pair) → before ≡ pair ∷ rest
-    → length (asked_of [] before) ≡ length (asked_at [] [] pair.left) + length (asked_at [] [] pair.right) + length (asked_of [] rest)
-asked-parted before rest pair is =
+requested-parted : (before rest : List Pair) (pair : Pair) → before ≡ pair ∷ rest
+    → length (requested_of [] before) ≡ length (requested_at [] [] pair.left) + length (requested_at [] [] pair.right) + length (requested_of [] rest)
+requested-parted before rest pair is =
     omega (
       arith,
-      ap (λ ps. length (asked_of [] ps)) is,
-      length-append (asked_at [] (child pair.prefix false) pair.left) (asked_at [] (child pair.prefix true) pair.right ++ asked_of [] rest),
-      length-append (asked_at [] (child pair.prefix true) pair.right) (asked_of [] rest),
-      asked_at-length [] (child pair.prefix false) pair.left,
-      asked_at-length [] (child pair.prefix true) pair.right,
+      ap (λ ps. length (requested_of [] ps)) is,
+      length-append (requested_at [] (child pair.prefix false) pair.left) (requested_at [] (child pair.prefix true) pair.right ++ requested_of [] rest),
+      length-append (requested_at [] (child pair.prefix true) pair.right) (requested_of [] rest),
+      requested_at-length [] (child pair.prefix false) pair.left,
+      requested_at-length [] (child pair.prefix true) pair.right,
     )
 
 -- fewer messages are left to hash once a pair has its hashes
-pub asked-fewer : (before rest : List Pair) (pair : Pair) (m n : ℕ) → before ≡ pair ∷ rest → length (asked_of [] before) ≤ m
-    → n + length (asked_at [] [] pair.left) + length (asked_at [] [] pair.right) ≡ m → length (asked_of [] rest) ≤ n
-asked-fewer before rest pair m n is enough fewer = omega (arith, asked-parted before rest pair is)
+pub requested-fewer : (before rest : List Pair) (pair : Pair) (m n : ℕ) → before ≡ pair ∷ rest → length (requested_of [] before) ≤ m
+    → n + length (requested_at [] [] pair.left) + length (requested_at [] [] pair.right) ≡ m → length (requested_of [] rest) ≤ n
+requested-fewer before rest pair m n is enough fewer = omega (arith, requested-parted before rest pair is)
 
 -- the pairs with hashes, followed by the others, are all the pairs
 pub same-more : (all before rest : List Pair) (pair : Pair) (hs new : List Halved) (h : Halved) → before ≡ pair ∷ rest → new ≡ hs ++ h ∷ [] → h.pair ≡ pair

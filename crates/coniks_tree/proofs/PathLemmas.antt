@@ -49,12 +49,12 @@ pub record OnWay (by : Hashing) (t : Table) (index : List ℕ) (entries : List N
   pub below : List Numbered
   pub at : length prefix ≡ level
   pub shows : Shows by t number prefix below
-  pub told : so_far ++ siblings by prefix index below ≡ siblings by [] index entries
+  pub reported : so_far ++ siblings by prefix index below ≡ siblings by [] index entries
   pub ends : end_of prefix index below ≡ end_of [] index entries
 
 pub way_begins : (by : Hashing) (t : Table) (index : List ℕ) (entries : List Numbered) (number : ℕ)
     → Shows by t number [] entries → OnWay by t index entries [] number 0
-way_begins by t index entries number s = record { prefix = []; below = entries; at = refl; shows = s; told = refl; ends = refl }
+way_begins by t index entries number s = record { prefix = []; below = entries; at = refl; shows = s; reported = refl; ends = refl }
 
 pub way_goes_on : (by : Hashing) (t : Table)
     (index : List ℕ) (entries : List Numbered) (so_far : List (List ℕ)) (number near level : ℕ) (sibling : Digest)
@@ -63,14 +63,14 @@ pub way_goes_on : (by : Hashing) (t : Table)
 way_goes_on by t index entries so_far number near level sibling w s =
     let b = bit_at index level in
     let b-is : bit_at index (length w.prefix) ≡ b = ap (bit_at index) w.at in
-    let told = siblings-inner by w.prefix index w.below b b-is s.short s.many in
+    let reported = siblings-inner by w.prefix index w.below b b-is s.short s.many in
     record {
       prefix = child w.prefix b;
       below = half b (length w.prefix) w.below;
       at = omega (arith, length-child w.prefix b, w.at);
       shows = s.shows;
-      told = append_assoc so_far (sibling.0 ∷ []) _ ∙ ap (λ x. so_far ++ x ∷ siblings by (child w.prefix b) index (half b (length w.prefix) w.below))
-          s.beside ∙ ap (λ xs. so_far ++ xs) (sym told) ∙ w.told;
+      reported = append_assoc so_far (sibling.0 ∷ []) _ ∙ ap (λ x. so_far ++ x ∷ siblings by (child w.prefix b) index (half b (length w.prefix) w.below))
+          s.beside ∙ ap (λ xs. so_far ++ xs) (sym reported) ∙ w.reported;
       ends = sym (end_of-inner w.prefix index w.below b b-is s.short s.many) ∙ w.ends;
     }
 
@@ -85,10 +85,10 @@ end_of-few p j (e ∷ []) few = end_of-leaf p j e
 end_of-few p j (e ∷ f ∷ es) few = absurd (omega arith)
 
 -- at the end of the way the siblings are complete
-pub way_told : (by : Hashing) (t : Table) (index : List ℕ) (entries : List Numbered) (so_far : List (List ℕ)) (number level : ℕ)
+pub way_reported : (by : Hashing) (t : Table) (index : List ℕ) (entries : List Numbered) (so_far : List (List ℕ)) (number level : ℕ)
     → (w : OnWay by t index entries so_far number level) → length w.below ≤ 1 → so_far ≡ siblings by [] index entries
-way_told by t index entries so_far number level w few =
-    sym (append-nil so_far) ∙ ap (λ xs. so_far ++ xs) (sym (siblings-few by w.prefix index w.below few)) ∙ w.told
+way_reported by t index entries so_far number level w few =
+    sym (append-nil so_far) ∙ ap (λ xs. so_far ++ xs) (sym (siblings-few by w.prefix index w.below few)) ∙ w.reported
 
 pub way_ends : (by : Hashing) (t : Table) (index : List ℕ) (entries : List Numbered) (so_far : List (List ℕ)) (number level : ℕ)
     → (w : OnWay by t index entries so_far number level) → length w.below ≤ 1 → w.below ≡ end_of [] index entries

@@ -16,17 +16,17 @@ use Rattle.coniks_tree.specs.declared.joining.Pair.{Pair}
 use Rattle.coniks_tree.specs.declared.joining.Halved.{Halved}
 
 -- what is hashed for a part at the prefix that has no hash yet
-abbrev pub asked_at : Octets → List Bool → Part → List Octets
-asked_at nonce prefix Nothing = empty_preimage nonce prefix ∷ []
-asked_at nonce prefix (Entry c) = leaf_preimage nonce c.index.0 (length prefix) c.commitment.0 ∷ []
-asked_at nonce prefix (Kept root) = []
-asked_at nonce prefix (Made' p hash lh rh count left right) = []
+abbrev pub requested_at : Octets → List Bool → Part → List Octets
+requested_at nonce prefix Nothing = empty_preimage nonce prefix ∷ []
+requested_at nonce prefix (Entry c) = leaf_preimage nonce c.index.0 (length prefix) c.commitment.0 ∷ []
+requested_at nonce prefix (Kept root) = []
+requested_at nonce prefix (Made' p hash lh rh count left right) = []
 
 -- what is hashed for the sides of the pairs that have no hash yet, from left to right
-abbrev pub asked_of : Octets → List Pair → List Octets
-asked_of nonce [] = []
-asked_of nonce (pair ∷ pairs) = asked_at nonce (child pair.prefix false) pair.left
-    ++ (asked_at nonce (child pair.prefix true) pair.right ++ asked_of nonce pairs)
+abbrev pub requested_of : Octets → List Pair → List Octets
+requested_of nonce [] = []
+requested_of nonce (pair ∷ pairs) = requested_at nonce (child pair.prefix false) pair.left
+    ++ (requested_at nonce (child pair.prefix true) pair.right ++ requested_of nonce pairs)
 
 -- the two parts of the pair keep nodes among the first `n` only, and are of the prefixes below the pair's
 pub record PairFits (n : ℕ) (pair : Pair) : Type 0 where

@@ -14,30 +14,49 @@ use crate::tree::Tree;
 use coniks_proof::MAX_LEVEL;
 use std::alloc::AllocError;
 
+/// A node of the table, by its number, at a prefix of `level` bits.
+#[derive(Clone, Copy)]
+pub(crate) struct NodeAt {
+    pub(crate) number: usize,
+    pub(crate) level: usize,
+}
+
 /// Appends the numbers of the records under a node to a list, in the order of their indices.
-///
-/// The node is at a prefix of `level` bits.
 pub(crate) fn list_places(
     tree: &Tree,
-    level: usize,
-    number: usize,
+    node: NodeAt,
     listed: &mut Vec<RecordNo>,
 ) -> Result<(), AllocError>
-    requires { number < length tree.now.nodes }
+    requires { node.number < length tree.now.nodes }
     ensures stored { OnOk result (AreStored (length tree.now.records) listed.old.items
         → AreStored (length tree.now.records) listed.new.items) }
     ensures lists { OnOk result ((by : Hashing) (prefix : List Bool) (entries : List Numbered)
-        → length prefix ≡ level
-        → Shows by (table_of tree.now) number prefix entries
-        → entries_at tree.now.records listed.new.items ≡ entries_at tree.now.records listed.old.items ++ in_order level entries) }
+        → length prefix ≡ node.level
+        → Shows by (table_of tree.now) node.number prefix entries
+        → entries_at tree.now.records listed.new.items ≡ entries_at tree.now.records listed.old.items ++ in_order node.level entries) }
 {
-    match tree.node(number) {
+    match tree.node(node.number) {
         Node::Empty(_) => Ok(()),
         Node::Leaf(place, _) => Ok(listed.push(place)?),
         Node::Inner(left, right, _) => {
-            if level < MAX_LEVEL {
-                list_places(tree, level + 1, left, listed)?;
-                list_places(tree, level + 1, right, listed)?;
+            if node.level < MAX_LEVEL {
+                let level = node.level + 1;
+                list_places(
+                    tree,
+                    NodeAt {
+                        number: left,
+                        level,
+                    },
+                    listed,
+                )?;
+                list_places(
+                    tree,
+                    NodeAt {
+                        number: right,
+                        level,
+                    },
+                    listed,
+                )?;
             }
             Ok(())
         }

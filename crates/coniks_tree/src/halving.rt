@@ -15,7 +15,7 @@ use crate::tree::Tree;
 use coniks_proof::bit;
 
 /// Returns the part that a node stands for.
-pub(crate) fn kept(tree: &Tree, number: usize) -> Part
+pub(crate) fn retained(tree: &Tree, number: usize) -> Part
     requires { number < length tree.now.nodes }
     ensures fits { (level : ℕ) → level ≤ 256 → Fits (length tree.now.nodes) level result }
     ensures unmade { is_made result ≡ false }
@@ -120,6 +120,6 @@ pub(crate) fn below(tree: &Tree, level: usize, root: Root) -> (Part, Part)
     match tree.node(root.0) {
         Node::Empty(_) => (Part::Nothing, Part::Nothing),
         Node::Leaf(place, _) => aside(level, change_at(tree, place)),
-        Node::Inner(left, right, _) => (kept(tree, left), kept(tree, right)),
+        Node::Inner(left, right, _) => (retained(tree, left), retained(tree, right)),
     }
 }

@@ -10,9 +10,9 @@ ghost use Rattle.coniks_tree.specs.Table.{Numbered, Table};
 ghost use Rattle.coniks_tree.specs.Trees.{table_of};
 ghost use Rattle.coniks_tree.specs.Counts.{joined_count};
 ghost use Rattle.coniks_tree.specs.Parts.{Stands, Fits, KeepsNone, Placed, node_count};
-ghost use Rattle.coniks_tree.specs.Joins.{asked_at, asked_of, inner_of, AllHalved, AllJoined, IsHashAt, IsHalved, PairFits, PairsFit};
+ghost use Rattle.coniks_tree.specs.Joins.{requested_at, requested_of, inner_of, AllHalved, AllJoined, IsHashAt, IsHalved, PairFits, PairsFit};
 
-use crate::part::{Part, made, weight};
+use crate::part::{NodeHashes, Part, made, weight};
 use crate::table::Record;
 use crate::tree::{Base, Tree};
 use coniks_proof::{Digest, Hash32, Message, Prefix, empty_message, hash_all, leaf_message};
@@ -44,7 +44,7 @@ fn ask(
 ) -> Result<(), AllocError>
     requires { length prefix.now < 256 }
     ensures { OnOk result ((nonce : Octets)
-        → map (preimage_of nonce) messages.new.items ≡ map (preimage_of nonce) messages.old.items ++ asked_at nonce (child prefix.now right) part.now) }
+        → map (preimage_of nonce) messages.new.items ≡ map (preimage_of nonce) messages.old.items ++ requested_at nonce (child prefix.now right) part.now) }
 {
     match part {
         Part::Nothing => Ok(messages.push(empty_message(prefix.child(right)))?),
@@ -58,9 +58,9 @@ fn ask(
 }
 
 /// Returns the messages of the sides of pairs that have no hash yet, from left to right.
-fn asked(alloc: Global, pairs: &[Pair]) -> Result<Vec<Message>, AllocError>
+fn requested(alloc: Global, pairs: &[Pair]) -> Result<Vec<Message>, AllocError>
     requires { (n : ℕ) × PairsFit n pairs.now }
-    ensures { IfOk result (λ messages. (nonce : Octets) → map (preimage_of nonce) messages.items ≡ asked_of nonce pairs.now) }
+    ensures { IfOk result (λ messages. (nonce : Octets) → map (preimage_of nonce) messages.items ≡ requested_of nonce pairs.now) }
 {
     let mut messages = Vec::with_capacity(alloc, pairs.len())?;
     let mut rest = pairs;
@@ -83,13 +83,13 @@ fn first_hash(hashes: &mut VecDeque<Digest>) -> Digest
     hash
 }
 
-/// Returns the hash of a side: its own, or else the first of the hashes that were asked for.
+/// Returns the hash of a side: its own, or else the first of the hashes that were requested.
 fn side_hash(tree: &Tree, part: &Part, hashes: &mut VecDeque<Digest>) -> Digest
     requires fits { (level : ℕ) × Fits (length tree.now.nodes) level part.now }
-    requires some { length (asked_at [] [] part.now) ≤ length hashes.old.items }
-    ensures len { length hashes.new.items + length (asked_at [] [] part.now) ≡ length hashes.old.items }
+    requires some { length (requested_at [] [] part.now) ≤ length hashes.old.items }
+    ensures len { length hashes.new.items + length (requested_at [] [] part.now) ≡ length hashes.old.items }
     ensures hash { (by : Hashing) (prefix : List Bool) (rest : List Octets)
-        → map (λ d. d.0) hashes.old.items ≡ map by.hash (asked_at by.nonce prefix part.now ++ rest)
+        → map (λ d. d.0) hashes.old.items ≡ map by.hash (requested_at by.nonce prefix part.now ++ rest)
         → IsHashAt by (table_of tree.now) prefix part.now result × (map (λ d. d.0) hashes.new.items ≡ map by.hash rest) }
 {
     match part {
@@ -100,15 +100,15 @@ fn side_hash(tree: &Tree, part: &Part, hashes: &mut VecDeque<Digest>) -> Digest
     }
 }
 
-/// Returns a pair with the hashes of its two parts. Those that were asked for are the first of the hashes.
+/// Returns a pair with the hashes of its two parts. Those that were requested are the first of the hashes.
 fn halve(tree: &Tree, pair: Pair, hashes: &mut VecDeque<Digest>) -> Halved
     requires fits { PairFits (length tree.now.nodes) pair }
-    requires some { length (asked_at [] [] pair.left) + length (asked_at [] [] pair.right) ≤ length hashes.old.items }
+    requires some { length (requested_at [] [] pair.left) + length (requested_at [] [] pair.right) ≤ length hashes.old.items }
     ensures same { result.pair ≡ pair }
-    ensures len { length hashes.new.items + length (asked_at [] [] pair.left) + length (asked_at [] [] pair.right) ≡ length hashes.old.items }
+    ensures len { length hashes.new.items + length (requested_at [] [] pair.left) + length (requested_at [] [] pair.right) ≡ length hashes.old.items }
     ensures halved { (by : Hashing) (rest : List Octets)
         → map (λ d. d.0) hashes.old.items ≡ map by.hash
-        (asked_at by.nonce (child pair.prefix false) pair.left ++ (asked_at by.nonce (child pair.prefix true) pair.right ++ rest))
+        (requested_at by.nonce (child pair.prefix false) pair.left ++ (requested_at by.nonce (child pair.prefix true) pair.right ++ rest))
         → IsHalved by (table_of tree.now) result × (map (λ d. d.0) hashes.new.items ≡ map by.hash rest) }
 {
     let left_hash = side_hash(tree, &pair.left, hashes);
@@ -127,11 +127,11 @@ fn halve_all(
     mut hashes: VecDeque<Digest>,
 ) -> Result<(VecDeque<Halved>, Vec<Message>), AllocError>
     requires fits { PairsFit (length tree.now.nodes) pairs.items }
-    requires some { length (asked_of [] pairs.items) ≤ length hashes.items }
+    requires some { length (requested_of [] pairs.items) ≤ length hashes.items }
     ensures same { IfOk result (λ all. map (λ h. h.pair) all.0.items ≡ pairs.items) }
     ensures inner { IfOk result (λ all. (nonce : Octets) → map (preimage_of nonce) all.1.items ≡ map inner_of all.0.items) }
     ensures halved { IfOk result (λ all. (by : Hashing)
-        → map (λ d. d.0) hashes.items ≡ map by.hash (asked_of by.nonce pairs.items) → AllHalved by (table_of tree.now) all.0.items) }
+        → map (λ d. d.0) hashes.items ≡ map by.hash (requested_of by.nonce pairs.items) → AllHalved by (table_of tree.now) all.0.items) }
 {
     let mut halved = VecDeque::with_capacity(tree.alloc(), pairs.len())?;
     let mut messages = Vec::with_capacity(tree.alloc(), pairs.len())?;
@@ -170,7 +170,12 @@ fn joined(alloc: Global, halved: Halved, hash: Digest) -> Result<Part, AllocErro
         }
         return Ok(right);
     }
-    Ok(made(alloc, left, right, left_hash, right_hash, hash)?)
+    let hashes = NodeHashes {
+        node: hash,
+        left: left_hash,
+        right: right_hash,
+    };
+    Ok(made(alloc, left, right, hashes)?)
 }
 
 /// Joins the pairs, whose nodes have these hashes.
@@ -204,7 +209,7 @@ pub(crate) fn join_all<H: Hash32>(
     ensures { IfOk result (λ parts. AllJoined (hashing (H.digest_of base.now.h.now) base.now.nonce.now.0) (table_of base.now.tree.now) pairs.items parts.items) }
 {
     let alloc = base.tree.alloc();
-    let messages = asked(alloc, &pairs)?;
+    let messages = requested(alloc, &pairs)?;
     let hashes = hash_all(alloc, base.h, base.nonce, &messages)?;
     let (halved, messages) = halve_all(base.tree, pairs, hashes)?;
     let hashes = hash_all(alloc, base.h, base.nonce, &messages)?;

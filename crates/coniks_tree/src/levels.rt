@@ -132,8 +132,6 @@ fn divide_all<'a>(
     ensures below { IfOk result (λ both. AllOpen (length tree.now.nodes) (level + 1) both.1.items) }
     ensures divide { IfOk result (λ both. (by : Hashing) → AllDivide by (table_of tree.now) growing.entry.items both.0.items both.1.items) }
 {
-    // Read for the contract alone.
-    let _ = level;
     let mut opened = VecDeque::with_capacity(tree.alloc(), growing.len())?;
     let room = max(growing.len(), all_inner_below(&tree.nodes, &growing));
     let mut next = VecDeque::with_capacity(tree.alloc(), room)?;

@@ -7,6 +7,7 @@ ghost use Rattle.coniks_tree.specs.Pages.{beyond_from, is_less_from};
 ghost use Rattle.coniks_tree.specs.Table.{Numbered, Shows};
 ghost use Rattle.coniks_tree.specs.Trees.{table_of};
 
+use crate::entries::NodeAt;
 use crate::table::{Node, RecordNo};
 use crate::tree::Tree;
 use coniks_proof::{Index, MAX_LEVEL, bit};
@@ -28,37 +29,51 @@ fn is_less_from(level: usize, index: &Index, other: &Index) -> bool
 }
 
 /// Appends the numbers of the records under a node to a list, in the order of their indices, until it has `most`.
-///
-/// The node is at a prefix of `level` bits.
 pub(crate) fn list_first(
     tree: &Tree,
-    level: usize,
-    number: usize,
+    node: NodeAt,
     most: usize,
     listed: &mut Vec<RecordNo>,
 ) -> Result<(), AllocError>
-    requires known { number < length tree.now.nodes }
+    requires known { node.number < length tree.now.nodes }
     requires room { length listed.old.items ≤ most }
     ensures room { OnOk result (length listed.new.items ≤ most) }
     ensures stored { OnOk result (AreStored (length tree.now.records) listed.old.items
         → AreStored (length tree.now.records) listed.new.items) }
     ensures lists { OnOk result ((by : Hashing) (prefix : List Bool) (entries : List Numbered)
         → AreStored (length tree.now.records) listed.old.items
-        → length prefix ≡ level
-        → Shows by (table_of tree.now) number prefix entries
+        → length prefix ≡ node.level
+        → Shows by (table_of tree.now) node.number prefix entries
         → entries_at tree.now.records listed.new.items
-        ≡ take most (entries_at tree.now.records listed.old.items ++ in_order level entries)) }
+        ≡ take most (entries_at tree.now.records listed.old.items ++ in_order node.level entries)) }
 {
     if listed.len() >= most {
         return Ok(());
     }
-    match tree.node(number) {
+    match tree.node(node.number) {
         Node::Empty(_) => Ok(()),
         Node::Leaf(place, _) => Ok(listed.push(place)?),
         Node::Inner(left, right, _) => {
-            if level < MAX_LEVEL {
-                list_first(tree, level + 1, left, most, listed)?;
-                list_first(tree, level + 1, right, most, listed)?;
+            if node.level < MAX_LEVEL {
+                let level = node.level + 1;
+                list_first(
+                    tree,
+                    NodeAt {
+                        number: left,
+                        level,
+                    },
+                    most,
+                    listed,
+                )?;
+                list_first(
+                    tree,
+                    NodeAt {
+                        number: right,
+                        level,
+                    },
+                    most,
+                    listed,
+                )?;
             }
             Ok(())
         }
@@ -67,43 +82,50 @@ pub(crate) fn list_first(
 
 /// Appends the numbers of the records under a node that are beyond an index to a list, until it has `most`.
 ///
-/// They are in the order of their indices. The node is at a prefix of `level` bits, and only the bits from that level on
-/// are compared.
+/// They are in the order of their indices. Only the bits from the node's level on are compared.
 pub(crate) fn list_beyond(
     tree: &Tree,
-    level: usize,
-    number: usize,
+    node: NodeAt,
     after: &Index,
     most: usize,
     listed: &mut Vec<RecordNo>,
 ) -> Result<(), AllocError>
-    requires known { number < length tree.now.nodes }
+    requires known { node.number < length tree.now.nodes }
     requires room { length listed.old.items ≤ most }
     ensures room { OnOk result (length listed.new.items ≤ most) }
     ensures stored { OnOk result (AreStored (length tree.now.records) listed.old.items
         → AreStored (length tree.now.records) listed.new.items) }
     ensures lists { OnOk result ((by : Hashing) (prefix : List Bool) (entries : List Numbered)
         → AreStored (length tree.now.records) listed.old.items
-        → length prefix ≡ level
-        → Shows by (table_of tree.now) number prefix entries
+        → length prefix ≡ node.level
+        → Shows by (table_of tree.now) node.number prefix entries
         → entries_at tree.now.records listed.new.items
-        ≡ take most (entries_at tree.now.records listed.old.items ++ beyond_from level after.now.0 (in_order level entries))) }
+        ≡ take most (entries_at tree.now.records listed.old.items ++ beyond_from node.level after.now.0 (in_order node.level entries))) }
 {
-    match tree.node(number) {
+    match tree.node(node.number) {
         Node::Empty(_) => Ok(()),
         Node::Leaf(place, _) => {
-            if is_less_from(level, after, &tree.record(place).index) {
-                list_first(tree, level, number, most, listed)?;
+            if is_less_from(node.level, after, &tree.record(place).index) {
+                list_first(tree, node, most, listed)?;
             }
             Ok(())
         }
         Node::Inner(lesser, greater, _) => {
-            if level < MAX_LEVEL {
-                if bit(after, level) {
-                    list_beyond(tree, level + 1, greater, after, most, listed)?;
+            if node.level < MAX_LEVEL {
+                let level = node.level + 1;
+                let greater = NodeAt {
+                    number: greater,
+                    level,
+                };
+                if bit(after, node.level) {
+                    list_beyond(tree, greater, after, most, listed)?;
                 } else {
-                    list_beyond(tree, level + 1, lesser, after, most, listed)?;
-                    list_first(tree, level + 1, greater, most, listed)?;
+                    let lesser = NodeAt {
+                        number: lesser,
+                        level,
+                    };
+                    list_beyond(tree, lesser, after, most, listed)?;
+                    list_first(tree, greater, most, listed)?;
                 }
             }
             Ok(())

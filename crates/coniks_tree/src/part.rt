@@ -110,15 +110,21 @@ pub(crate) fn weight(part: &Part) -> usize
     }
 }
 
-/// Returns a new subtree over two parts. The parts' hashes and its node's hash are arguments.
+/// The hash of a node, and those of its two sides.
+#[derive(Clone, Copy)]
+pub(crate) struct NodeHashes {
+    pub(crate) node: Digest,
+    pub(crate) left: Digest,
+    pub(crate) right: Digest,
+}
+
+/// Returns a new subtree over two parts, whose node has these hashes.
 #[inline(always)]
 pub(crate) fn made(
     alloc: Global,
     left: Part,
     right: Part,
-    left_hash: Digest,
-    right_hash: Digest,
-    hash: Digest,
+    hashes: NodeHashes,
 ) -> Result<Part, AllocError>
     ensures fits { IfOk result (λ part. (n level : ℕ) → level < 256 → Fits n (level + 1) left → Fits n (level + 1) right → Fits n level part) }
     ensures count { IfOk result (λ part. node_count part ≡ node_count left + node_count right + 1) }
@@ -126,7 +132,7 @@ pub(crate) fn made(
     ensures placed { IfOk result (λ part. (all : List Record) → Placed all left → Placed all right → Placed all part) }
     ensures stands { IfOk result (λ part. (by : Hashing)
         (t : Table) (prefix : List Bool) (entries : List Numbered)
-        → IsSubtree by prefix entries hash left_hash right_hash
+        → IsSubtree by prefix entries hashes.node hashes.left hashes.right
         (Stands by t left) (Stands by t right)
         → Stands by t part prefix entries) }
 {
@@ -136,9 +142,9 @@ pub(crate) fn made(
     Ok(Part::Made(Box::new(
         alloc,
         Subtree {
-            hash,
-            left_hash,
-            right_hash,
+            hash: hashes.node,
+            left_hash: hashes.left,
+            right_hash: hashes.right,
             count,
             left,
             right,
@@ -177,6 +183,10 @@ pub(crate) fn join_parts<H: Hash32>(
     }
     let left_hash = hash_at(base.tree, base.h, base.nonce, &prefix.child(false), &left);
     let right_hash = hash_at(base.tree, base.h, base.nonce, &prefix.child(true), &right);
-    let hash = inner_hash(base.h, &left_hash, &right_hash);
-    Ok(made(base.tree.alloc(), left, right, left_hash, right_hash, hash)?)
+    let hashes = NodeHashes {
+        node: inner_hash(base.h, &left_hash, &right_hash),
+        left: left_hash,
+        right: right_hash,
+    };
+    Ok(made(base.tree.alloc(), left, right, hashes)?)
 }

@@ -130,9 +130,7 @@ pub(crate) fn last_number(tree: &Tree, root: Root, index: &Index) -> usize
 {
     let mut number = root.0;
     let mut level = 0;
-    while let Some((near, beside)) = step(tree, number, index, level) {
-        // Read for the contract alone.
-        let _ = beside;
+    while let Some((near, _beside)) = step(tree, number, index, level) {
         number = near;
         level += 1;
     }

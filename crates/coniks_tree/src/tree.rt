@@ -16,7 +16,7 @@ ghost use Rattle.coniks_tree.specs.Parts.{Stands, Fits, KeepsNone, Placed, AllPl
 ghost use Rattle.coniks_tree.specs.Paths.{Finds};
 
 use crate::attach::append;
-use crate::entries::{changes_at, list_places};
+use crate::entries::{NodeAt, changes_at, list_places};
 use crate::growth::grow_part;
 use crate::halving::side;
 use crate::packed::{PackedNode, has_numbers};
@@ -173,7 +173,11 @@ impl Tree {
             → Shows by (table_of self.now) root.0 [] entries → Lists changes.items entries) }
     {
         let mut places = Vec::new(self.alloc());
-        list_places(self, 0, root.0, &mut places)?;
+        let node = NodeAt {
+            number: root.0,
+            level: 0,
+        };
+        list_places(self, node, &mut places)?;
         Ok(changes_at(self, &places)?)
     }
 
@@ -198,9 +202,13 @@ impl Tree {
             → Shows by (table_of self.now) root.0 [] entries → entries_in page.items ≡ page_of after most entries) }
     {
         let mut places = Vec::new(self.alloc());
+        let node = NodeAt {
+            number: root.0,
+            level: 0,
+        };
         match after {
-            None => list_first(self, 0, root.0, most, &mut places)?,
-            Some(index) => list_beyond(self, 0, root.0, &index, most, &mut places)?,
+            None => list_first(self, node, most, &mut places)?,
+            Some(index) => list_beyond(self, node, &index, most, &mut places)?,
         }
         Ok(changes_at(self, &places)?)
     }

@@ -2,13 +2,13 @@ use Rattle.std.proofs.Common.{length, sym, subst, map, ap, ◌∙◌, arith}
 use Rattle.std.proofs.lemmas.List.{length-map}
 use Rattle.coniks_proof.specs.Hashing.{hashing}
 use Rattle.coniks_proof.specs.Messages.{preimage_of}
-use Rattle.coniks_tree.specs.Joins.{AllJoined, PairsFit, asked_of, inner_of}
+use Rattle.coniks_tree.specs.Joins.{AllJoined, PairsFit, requested_of, inner_of}
 use Rattle.coniks_tree.specs.Trees.{table_of}
 use Rattle.coniks_tree.proofs.JoinLemmas.{hashed_all, hashed_as}
 use Rattle.coniks_tree.proofs.joining.join_all.Goals as goal
 
-pub asked-requires : goal.asked-requires
-asked-requires g c = (length c.args.base.now.tree.now.nodes, subst (PairsFit (length c.args.base.now.tree.now.nodes)) (sym c.deref.ensures.value) c.requires)
+pub requested-requires : goal.requested-requires
+requested-requires g c = (length c.args.base.now.tree.now.nodes, subst (PairsFit (length c.args.base.now.tree.now.nodes)) (sym c.deref.ensures.value) c.requires)
 
 pub joined_all-requires : goal.joined_all-requires
 joined_all-requires g c =
@@ -25,8 +25,8 @@ returns g c =
     let pairs = c.args.pairs.items in
     let same = c.in_ok-halved.ensures.same in
     -- the hashes of the sides, and those of the nodes above them
-    let sides = hashed_all by.hash (preimage_of by.nonce) c.deref-2.result.now (asked_of by.nonce pairs) c.in_ok-hashes.hashes.items c.in_ok-hashes.ensures
-    (ap (map (preimage_of by.nonce)) c.deref-2.ensures.value ∙ c.in_ok-messages.ensures by.nonce ∙ ap (asked_of by.nonce) c.deref.ensures.value) in
+    let sides = hashed_all by.hash (preimage_of by.nonce) c.deref-2.result.now (requested_of by.nonce pairs) c.in_ok-hashes.hashes.items c.in_ok-hashes.ensures
+    (ap (map (preimage_of by.nonce)) c.deref-2.ensures.value ∙ c.in_ok-messages.ensures by.nonce ∙ ap (requested_of by.nonce) c.deref.ensures.value) in
     let inner = hashed_as by.hash (preimage_of by.nonce) inner_of c.deref-3.result.now c.in_ok-halved.halved.items c.in_ok-hashes-2.hashes.items c.in_ok-hashes-2.ensures
     (ap (map (preimage_of by.nonce)) c.deref-3.ensures.value ∙ c.in_ok-halved.ensures.inner by.nonce) in
     subst (λ ps. AllJoined by t ps c.in_ok-joined_all.field-0.items) same

@@ -8,8 +8,8 @@ use Rattle.coniks_tree.proofs.levels.divide_all.Given as goal
 
 abbrev pub invariant-loop-one : goal.invariant-loop-one
 invariant-loop-one l = record {
-  open_before : AllOpen (length l.tree.nodes) l.level l.growing.items;
-  open_below : AllOpen (length l.tree.nodes) (l.level + 1) l.next.items;
+  open_before : AllOpen (length l.tree.nodes) l.fn.level l.growing.items;
+  open_below : AllOpen (length l.tree.nodes) (l.fn.level + 1) l.next.items;
   so_far : (by : Hashing) (opened : List Opened) (next : List Growing) → AllDivide by (table_of l.tree) l.growing.items opened next
       → AllDivide by (table_of l.tree) l.initial.growing.items (l.opened.items ++ opened) (l.next.items ++ next);
 }

@@ -14,15 +14,15 @@ use Rattle.coniks_tree.proofs.page.+list_beyond.Goals as goal
 pub returns-in-Empty-clause-lists : goal.returns-in-Empty-clause-lists
 returns-in-Empty-clause-lists t c = λ by prefix entries stored at s.
     page-none c.args.tree.now.records c.args.listed.now.items c.args.most _ stored c.requires.room
-    (beyond-none c.args.level c.args.after.now.0 entries (Shows-none by (table_of c.args.tree.now) c.args.number prefix entries _ c.in-Empty.ensures.at s))
+    (beyond-none c.args.node.level c.args.after.now.0 entries (Shows-none by (table_of c.args.tree.now) c.args.node.number prefix entries _ c.in-Empty.ensures.at s))
 
 pub returns-in_ok-list_first-in-Leaf-clause-lists : goal.returns-in_ok-list_first-in-Leaf-clause-lists
 returns-in_ok-list_first-in-Leaf-clause-lists t c = λ by prefix entries stored at s.
-    let k = c.args.level in
+    let k = c.args.node.level in
     let records = c.args.tree.now.records in
     let found = c.record.result.now in
     let old = entries_at records c.args.listed.now.items in
-    let one = Shows-record by (table_of c.args.tree.now) prefix entries c.args.number c.in-Leaf.place c.in-Leaf.field-1 found c.in-Leaf.ensures.at c.record.ensures s in
+    let one = Shows-record by (table_of c.args.tree.now) prefix entries c.args.node.number c.in-Leaf.place c.in-Leaf.field-1 found c.in-Leaf.ensures.at c.record.ensures s in
     let list = in_order-few k entries (omega (arith, ap length one)) in
     c.in_ok-list_first-in-Leaf.ensures.lists by prefix entries stored at s
     ∙ ap (λ xs. take c.args.most (old ++ xs)) (list ∙ sym (beyond-one k c.args.after.now.0 entries (entry_of_record c.in-Leaf.place.0 found) true one (sym c.if-is_less_from.ensures)))
@@ -30,16 +30,16 @@ returns-in_ok-list_first-in-Leaf-clause-lists t c = λ by prefix entries stored 
 pub returns-else-is_less_from-clause-lists : goal.returns-else-is_less_from-clause-lists
 returns-else-is_less_from-clause-lists t c = λ by prefix entries stored at s.
     let found = c.record.result.now in
-    let one = Shows-record by (table_of c.args.tree.now) prefix entries c.args.number c.in-Leaf.place c.in-Leaf.field-1 found c.in-Leaf.ensures.at c.record.ensures s in
+    let one = Shows-record by (table_of c.args.tree.now) prefix entries c.args.node.number c.in-Leaf.place c.in-Leaf.field-1 found c.in-Leaf.ensures.at c.record.ensures s in
     page-none c.args.tree.now.records c.args.listed.now.items c.args.most _ stored c.requires.room
-    (beyond-one c.args.level c.args.after.now.0 entries (entry_of_record c.in-Leaf.place.0 found) false one (sym c.if-is_less_from.ensures))
+    (beyond-one c.args.node.level c.args.after.now.0 entries (entry_of_record c.in-Leaf.place.0 found) false one (sym c.if-is_less_from.ensures))
 
 pub returns-in_ok-list_beyond-in-Inner-clause-lists : goal.returns-in_ok-list_beyond-in-Inner-clause-lists
 returns-in_ok-list_beyond-in-Inner-clause-lists t c = λ by prefix entries stored at s.
-    let k = c.args.level in
+    let k = c.args.node.level in
     let x = c.args.after.now.0 in
     let records = c.args.tree.now.records in
-    let below = Shows-below by (table_of c.args.tree.now) c.args.number c.in-Inner.lesser c.in-Inner.greater prefix entries _ c.in-Inner.ensures.at s in
+    let below = Shows-below by (table_of c.args.tree.now) c.args.node.number c.in-Inner.lesser c.in-Inner.greater prefix entries _ c.in-Inner.ensures.at s in
     let deeper : length (child prefix true) ≡ k + 1 = omega (arith, length-child prefix true, at) in
     let short : k < 256 = omega (arith, below.short, at) in
     let right = c.in_ok-list_beyond-in-Inner.ensures.lists by (child prefix true) (half true (length prefix) entries) stored deeper below.right in
@@ -50,10 +50,10 @@ returns-in_ok-list_beyond-in-Inner-clause-lists t c = λ by prefix entries store
 
 pub returns-in_ok-list_first-in-Inner-clause-lists : goal.returns-in_ok-list_first-in-Inner-clause-lists
 returns-in_ok-list_first-in-Inner-clause-lists t c = λ by prefix entries stored at s.
-    let k = c.args.level in
+    let k = c.args.node.level in
     let x = c.args.after.now.0 in
     let records = c.args.tree.now.records in
-    let below = Shows-below by (table_of c.args.tree.now) c.args.number c.in-Inner.lesser c.in-Inner.greater prefix entries _ c.in-Inner.ensures.at s in
+    let below = Shows-below by (table_of c.args.tree.now) c.args.node.number c.in-Inner.lesser c.in-Inner.greater prefix entries _ c.in-Inner.ensures.at s in
     let deeper : (b : Bool) → length (child prefix b) ≡ k + 1 = λ b. omega (arith, length-child prefix b, at) in
     let short : k < 256 = omega (arith, below.short, at) in
     let left = c.in_ok-list_beyond-in-Inner-2.ensures.lists by (child prefix false) (half false (length prefix) entries) stored (deeper false) below.left in

@@ -34,7 +34,7 @@ returns-clause-stands g c = λ entries sl sr.
     c.in_ok-made.ensures.stands by t p entries
     (record {
       many = many;
-      is_hash = hash_made by p c.child.result c.child-2.result entries _ _ _ c.requires.short many c.child.ensures c.child-2.ensures c.inner_hash-hash.ensures left right;
+      is_hash = hash_made by p c.child.result c.child-2.result entries _ _ _ c.requires.short many c.child.ensures c.child-2.ensures c.inner_hash.ensures left right;
       left = record { is_hash = left-at; stands = sl };
       right = record { is_hash = right-at; stands = sr };
     })

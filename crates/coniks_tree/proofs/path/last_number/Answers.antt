@@ -16,7 +16,7 @@ loop-near-preserved c = record {
       let so_far = (c.loop-near.invariant.way by entries s).0 in
       let w = (c.loop-near.invariant.way by entries s).1 in (
         _,
-        way_goes_on by (table_of c.args.tree.now) c.args.index.now.0 entries so_far c.loop-near.number c.in-Some.near c.loop-near.level c.in-Some.beside w
+        way_goes_on by (table_of c.args.tree.now) c.args.index.now.0 entries so_far c.loop-near.number c.in-Some.near c.loop-near.level c.in-Some._beside w
             (c.in-Some.ensures.down by w.prefix w.below w.at w.shows),
       );
 }

@@ -1,4 +1,4 @@
-use Rattle.coniks_tree.proofs.PathLemmas.{OnWay, way_goes_on, way_told, way_ends}
+use Rattle.coniks_tree.proofs.PathLemmas.{OnWay, way_goes_on, way_reported, way_ends}
 use Rattle.coniks_tree.specs.Paths.{PathStopsAt}
 use Rattle.coniks_tree.specs.Table.{registered_at}
 use Rattle.coniks_tree.specs.Trees.{table_of}
@@ -32,7 +32,7 @@ returns c = λ by entries s.
     (c.stop_at.ensures.stops by w.prefix w.below few w.shows) in
     record {
       siblings_are = ap digests c.new.ensures
-          ∙ way_told by (table_of c.args.tree.now) index entries so_far c.loop-near.number c.loop-near.level w few
+          ∙ way_reported by (table_of c.args.tree.now) index entries so_far c.loop-near.number c.loop-near.level w few
           ∙ sym (siblings-backed (registered_at records) by [] index entries);
       end_is = subst (λ es. EndIs index es c.in_ok-end.end) (sym (end_of-backed (registered_at records) [] index entries))
           (c.in_ok-end.ensures index (end_of [] index entries) stops);
