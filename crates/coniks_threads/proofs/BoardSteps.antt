@@ -4,7 +4,7 @@ use Rattle.std.proofs.Math.Seq.{set-append_seam}
 use Rattle.std.proofs.lemmas.List.{set-get_or}
 use mathlib.Core.Option.{some, none}
 use lib.ListN.{get_elem?}
-use Rattle.atomic_table.specs.Table.{State, Me, Step, step, Act, keeps, Allows, Splits, Joins, opening}
+use Rattle.atomic_table.specs.Table.{Me, step, Act, keeps, Allows, Splits, Joins, opening}
 use Rattle.atomic_table.proofs.Lists.{at_set, at_snoc, set_again, set_else}
 use Rattle.coniks_threads.specs.declared.board_rule.BoardView.{BoardView}
 use Rattle.coniks_threads.specs.Blocks.{flat, AllFive}
@@ -36,56 +36,56 @@ reseated c writer log pending rest words views views' laid each = record { rows 
 pub puts : (c slots id : ℕ) (me : Me ℕ BoardView) (i x : ℕ) → me.0.writes ≡ true → me.0.live ≡ true
     → i ≡ 5 * length me.0.blocks + length me.0.pending + 1 → length me.0.pending < 5 → length me.0.blocks < c
     → Allows (IsByBoard c) slots id me i (λ _. x) (λ _. Stored (step slots i x 0 none) me x)
-puts c slots id me i x wr live is few room s kept len at bound = go kept.3 kept.4
+puts c slots id me i x wr live is few room s retained len at bound = go retained.3 retained.4
   where
     v : BoardView
     v = me.0
 
     u : BoardView
-    u = publisher_view v.blocks v.told (v.pending ++ x ∷ []) v.room
+    u = publisher_view v.blocks v.returned (v.pending ++ x ∷ []) v.room
 
-    go : (rest : List ℕ) → HoldsBoard c kept.0 kept.1 kept.2 rest s.words s.views → (w : BoardView) × (a : Act ℕ) × Rattle.atomic_table.specs.Table.Valid s.homes me.1 a
+    go : (rest : List ℕ) → HoldsBoard c retained.0 retained.1 retained.2 rest s.words s.views → (w : BoardView) × (a : Act ℕ) × Rattle.atomic_table.specs.Table.Valid s.homes me.1 a
         × IsByBoard c (Rattle.atomic_table.specs.Table.stepped s i x id me.1 w a) × Stored (step slots i x 0 none) me x (w, Rattle.atomic_table.specs.Table.carried_after me.1 a)
     go [] laid =
         let mine = (laid.each id v at).writes wr in
-        let a : length v.blocks ≡ length kept.1 = ap length mine.1 in
-        let b : length v.pending ≡ length kept.2 = ap length mine.2 in
-        let l = flat_length kept.1 laid.fives in
-        let n : length s.words ≡ suc (length (flat kept.1 ++ (kept.2 ++ []))) = ap length laid.rows in
+        let a : length v.blocks ≡ length retained.1 = ap length mine.1 in
+        let b : length v.pending ≡ length retained.2 = ap length mine.2 in
+        let l = flat_length retained.1 laid.fives in
+        let n : length s.words ≡ suc (length (flat retained.1 ++ (retained.2 ++ []))) = ap length laid.rows in
         let g = laid.long in
-        absurd (omega (arith, length-append (flat kept.1) (kept.2 ++ []), length-append kept.2 []))
+        absurd (omega (arith, length-append (flat retained.1) (retained.2 ++ []), length-append retained.2 []))
     go (y ∷ ys) laid =
         let fit = laid.each id v at in
         let mine = fit.writes wr in
-        let a : length v.blocks ≡ length kept.1 = ap length mine.1 in
-        let b : length v.pending ≡ length kept.2 = ap length mine.2 in
-        let l = flat_length kept.1 laid.fives in
-        let F : List ℕ = flat kept.1 in
-        let P : List ℕ = kept.2 in
+        let a : length v.blocks ≡ length retained.1 = ap length mine.1 in
+        let b : length v.pending ≡ length retained.2 = ap length mine.2 in
+        let l = flat_length retained.1 laid.fives in
+        let F : List ℕ = flat retained.1 in
+        let P : List ℕ = retained.2 in
         let place : i ≡ suc (length (F ++ P)) = omega (arith, length-append F P) in
-        let rows : s.words ≡ length kept.1 ∷ ((F ++ P) ++ y ∷ ys) = laid.rows ∙ ap (λ (k : List ℕ). length kept.1 ∷ k) (sym (append_assoc F P (y ∷ ys))) in
-        let rows' : slice_set s.words i x ≡ length kept.1 ∷ (F ++ ((P ++ x ∷ []) ++ ys)) =
+        let rows : s.words ≡ length retained.1 ∷ ((F ++ P) ++ y ∷ ys) = laid.rows ∙ ap (λ (k : List ℕ). length retained.1 ∷ k) (sym (append_assoc F P (y ∷ ys))) in
+        let rows' : slice_set s.words i x ≡ length retained.1 ∷ (F ++ ((P ++ x ∷ []) ++ ys)) =
         (λ j. slice_set (rows j) (place j) x)
-        ∙ ap (λ (k : List ℕ). length kept.1 ∷ k) (set-append_seam (F ++ P) y ys x ∙ append_assoc F P (x ∷ ys) ∙ ap (λ (k : List ℕ). F ++ k) (sym (append_assoc P (x ∷ []) ys))) in
+        ∙ ap (λ (k : List ℕ). length retained.1 ∷ k) (set-append_seam (F ++ P) y ys x ∙ append_assoc F P (x ∷ ys) ∙ ap (λ (k : List ℕ). F ++ k) (sym (append_assoc P (x ∷ []) ys))) in
         let longer : length (slice_set s.words i x) ≡ 5 * c + 1 = Rattle.std.proofs.Math.ListN.length-set s.words i x ∙ laid.long in
-        let each' : AllFit c kept.0 kept.1 (P ++ x ∷ []) (set s.views id u) = fits_set (FitsBoard c kept.0 kept.1 (P ++ x ∷ [])) s.views id u
-        record { writes = λ _. (mine.0, mine.1, ap (λ (k : List ℕ). k ++ x ∷ []) mine.2); seen = fit.seen; told = fit.told; room = λ _. fit.room live }
-        (λ j w other e. (let f = laid.each j w e in record { writes = λ t. absurd (other ((f.writes t).0 ∙ sym mine.0)); seen = f.seen; told = f.told; room = f.room })) in
-        (u, keeps, tt, (kept.0, kept.1, P ++ x ∷ [], ys, record { rows = rows'; long = longer; full = laid.full; fives = laid.fives; each = each' }), (refl, refl))
+        let each' : AllFit c retained.0 retained.1 (P ++ x ∷ []) (set s.views id u) = fits_set (FitsBoard c retained.0 retained.1 (P ++ x ∷ [])) s.views id u
+        record { writes = λ _. (mine.0, mine.1, ap (λ (k : List ℕ). k ++ x ∷ []) mine.2); seen = fit.seen; returned = fit.returned; room = λ _. fit.room live }
+        (λ j w other e. (let f = laid.each j w e in record { writes = λ t. absurd (other ((f.writes t).0 ∙ sym mine.0)); seen = f.seen; returned = f.returned; room = f.room })) in
+        (u, keeps, tt, (retained.0, retained.1, P ++ x ∷ [], ys, record { rows = rows'; long = longer; full = laid.full; fives = laid.fives; each = each' }), (refl, refl))
 
 -- the publisher stores the count
 pub publishes : (c slots id : ℕ) (me : Me ℕ BoardView) (n : ℕ) → me.0.writes ≡ true → me.0.live ≡ true → length me.0.pending ≡ 5 → n ≡ length me.0.blocks + 1 → length me.0.blocks < c
     → Allows (IsByBoard c) slots id me 0 (λ _. n) (λ _. Published (step slots 0 n 0 none) me n)
-publishes c slots id me n wr live five is room s kept len at bound =
+publishes c slots id me n wr live five is room s retained len at bound =
     let v : BoardView = me.0 in
-    let writer : ℕ = kept.0 in let log : List (List ℕ) = kept.1 in let P : List ℕ = kept.2 in let rest : List ℕ = kept.3 in
-    let laid : HoldsBoard c writer log P rest s.words s.views = kept.4 in
+    let writer : ℕ = retained.0 in let log : List (List ℕ) = retained.1 in let P : List ℕ = retained.2 in let rest : List ℕ = retained.3 in
+    let laid : HoldsBoard c writer log P rest s.words s.views = retained.4 in
     let fit = laid.each id v at in
     let mine = fit.writes wr in
     let a : length v.blocks ≡ length log = ap length mine.1 in
     let b : length v.pending ≡ length P = ap length mine.2 in
     let log' : List (List ℕ) = log ++ P ∷ [] in
-    let u : BoardView = publisher_view (v.blocks ++ v.pending ∷ []) v.told [] v.room in
+    let u : BoardView = publisher_view (v.blocks ++ v.pending ∷ []) v.returned [] v.room in
     let count : n ≡ length log' = omega (arith, length-append log (P ∷ [])) in
     let rows' : slice_set s.words 0 n ≡ length log' ∷ (flat log' ++ rest) =
     (λ j. slice_set (laid.rows j) 0 (count j)) ∙ ap (λ (k : List ℕ). length log' ∷ k) (sym (append_assoc (flat log) P rest) ∙ ap (λ (k : List ℕ). k ++ rest) (sym (flat_snoc log P))) in
@@ -94,11 +94,11 @@ publishes c slots id me n wr live five is room s kept len at bound =
     record {
       writes = λ _. (mine.0, (λ j. mine.1 j ++ mine.2 j ∷ []), refl);
       seen = subst (λ (k : List (List ℕ)). Begins k log') (λ j. sym mine.1 j ++ sym mine.2 j ∷ []) (begins_self log');
-      told = begins_more v.told log P fit.told;
+      returned = begins_more v.returned log P fit.returned;
       room = λ _. fit.room live;
     }
     (λ j w other e. (let f = laid.each j w e in
-    record { writes = λ t. absurd (other ((f.writes t).0 ∙ sym mine.0)); seen = begins_more w.blocks log P f.seen; told = begins_more w.told log P f.told; room = f.room })) in (
+    record { writes = λ t. absurd (other ((f.writes t).0 ∙ sym mine.0)); seen = begins_more w.blocks log P f.seen; returned = begins_more w.returned log P f.returned; room = f.room })) in (
       u,
       keeps,
       tt,
@@ -108,16 +108,16 @@ publishes c slots id me n wr live five is room s kept len at bound =
 
 -- a watcher loads the count
 pub looks : (c slots id : ℕ) (me : Me ℕ BoardView) → me.0.writes ≡ false → me.0.live ≡ true → Allows (IsByBoard c) slots id me 0 (λ n. n) (Looked (step slots 0 0 0 none) me)
-looks c slots id me wr live s kept len at bound =
+looks c slots id me wr live s retained len at bound =
     let v : BoardView = me.0 in
-    let writer : ℕ = kept.0 in let log : List (List ℕ) = kept.1 in let P : List ℕ = kept.2 in let rest : List ℕ = kept.3 in
-    let laid : HoldsBoard c writer log P rest s.words s.views = kept.4 in
+    let writer : ℕ = retained.0 in let log : List (List ℕ) = retained.1 in let P : List ℕ = retained.2 in let rest : List ℕ = retained.3 in
+    let laid : HoldsBoard c writer log P rest s.words s.views = retained.4 in
     let fit = laid.each id v at in
     let u : BoardView = watcher_view log v.room in
     let found : slice_index s.words 0 ≡ length log = ap (λ (l : List ℕ). slice_index l 0) laid.rows in
     let back : slice_set s.words 0 (slice_index s.words 0) ≡ s.words = set-get_or s.words 0 0 in
     let each' : AllFit c writer log P (set s.views id u) = fits_set (FitsBoard c writer log P) s.views id u
-    record { writes = λ t. absurd (true≢false (sym t)); seen = begins_self log; told = begins_none log; room = λ _. fit.room live }
+    record { writes = λ t. absurd (true≢false (sym t)); seen = begins_self log; returned = begins_none log; room = λ _. fit.room live }
     (λ j w other e. laid.each j w e) in (
       u,
       keeps,
@@ -128,10 +128,10 @@ looks c slots id me wr live s kept len at bound =
 
 -- a watcher loads a word of a block that it has seen
 pub reads : (c slots id : ℕ) (me : Me ℕ BoardView) (i : ℕ) → 0 < i → i ≤ 5 * length me.0.blocks → AllFive me.0.blocks → Allows (IsByBoard c) slots id me i (λ n. n) (Read (step slots i 0 0 none) me)
-reads c slots id me i some_word less fives s kept len at bound =
+reads c slots id me i some_word less fives s retained len at bound =
     let v : BoardView = me.0 in
-    let writer : ℕ = kept.0 in let log : List (List ℕ) = kept.1 in let P : List ℕ = kept.2 in let rest : List ℕ = kept.3 in
-    let laid : HoldsBoard c writer log P rest s.words s.views = kept.4 in
+    let writer : ℕ = retained.0 in let log : List (List ℕ) = retained.1 in let P : List ℕ = retained.2 in let rest : List ℕ = retained.3 in
+    let laid : HoldsBoard c writer log P rest s.words s.views = retained.4 in
     let fit = laid.each id v at in
     let back : slice_set s.words i (slice_index s.words i) ≡ s.words = set-get_or s.words i 0 in
     let next : i ≡ suc (i - 1) = omega arith in
@@ -139,29 +139,29 @@ reads c slots id me i some_word less fives s kept len at bound =
     let found : slice_index s.words i ≡ slice_index (flat v.blocks) (i - 1) = (λ j. slice_index (laid.rows j) (next j)) ∙ read_seen v.blocks log (P ++ rest) (i - 1) fit.seen (omega arith) in
     (v, keeps, tt, (writer, log, P, rest, same c writer log P rest s.words _ s.views _ laid (sym back) (sym (set_again s.views id v at))), (refl, found))
 
--- the publisher loads the count, and learns that what it was told of begins what it published
+-- the publisher loads the count, and learns that what it was informed of begins what it published
 pub compares : (c slots id : ℕ) (me : Me ℕ BoardView) → me.0.writes ≡ true → Allows (IsByBoard c) slots id me 0 (λ n. n) (Compared (step slots 0 0 0 none) me)
-compares c slots id me wr s kept len at bound =
+compares c slots id me wr s retained len at bound =
     let v : BoardView = me.0 in
-    let writer : ℕ = kept.0 in let log : List (List ℕ) = kept.1 in let P : List ℕ = kept.2 in let rest : List ℕ = kept.3 in
-    let laid : HoldsBoard c writer log P rest s.words s.views = kept.4 in
+    let writer : ℕ = retained.0 in let log : List (List ℕ) = retained.1 in let P : List ℕ = retained.2 in let rest : List ℕ = retained.3 in
+    let laid : HoldsBoard c writer log P rest s.words s.views = retained.4 in
     let fit = laid.each id v at in
     let back : slice_set s.words 0 (slice_index s.words 0) ≡ s.words = set-get_or s.words 0 0 in (
       v,
       keeps,
       tt,
       (writer, log, P, rest, same c writer log P rest s.words _ s.views _ laid (sym back) (sym (set_again s.views id v at))),
-      (refl, subst (λ (k : List (List ℕ)). Begins v.told k) (sym (fit.writes wr).1) fit.told),
+      (refl, subst (λ (k : List (List ℕ)). Begins v.returned k) (sym (fit.writes wr).1) fit.returned),
     )
 
 -- a new watcher has seen what the seat has seen
 pub witnesses : (c id : ℕ) (v : BoardView) → v.live ≡ true → Splits (IsByBoard {S = ℕ} c) id v v (watcher_view v.blocks v.room)
-witnesses c id v live s kept at =
-    let writer : ℕ = kept.0 in let log : List (List ℕ) = kept.1 in let P : List ℕ = kept.2 in let rest : List ℕ = kept.3 in
-    let laid : HoldsBoard c writer log P rest s.words s.views = kept.4 in
+witnesses c id v live s retained at =
+    let writer : ℕ = retained.0 in let log : List (List ℕ) = retained.1 in let P : List ℕ = retained.2 in let rest : List ℕ = retained.3 in
+    let laid : HoldsBoard c writer log P rest s.words s.views = retained.4 in
     let fit = laid.each id v at in
     let r : BoardView = watcher_view v.blocks v.room in
-    let fr : (j : ℕ) → FitsBoard c writer log P j r = λ j. record { writes = λ t. absurd (true≢false (sym t)); seen = fit.seen; told = begins_none log; room = λ _. fit.room live } in
+    let fr : (j : ℕ) → FitsBoard c writer log P j r = λ j. record { writes = λ t. absurd (true≢false (sym t)); seen = fit.seen; returned = begins_none log; room = λ _. fit.room live } in
     let same_views : set s.views id v ≡ s.views = set_again s.views id v at in (
       writer,
       log,
@@ -172,18 +172,18 @@ witnesses c id v live s kept at =
           (λ (x : r ≡ w). subst (FitsBoard c writer log P j) x (fr j)) (at_snoc (set s.views id v) r w j e)),
     )
 
--- a seat is told of what another has seen
+-- a seat is informed of what another has seen
 pub tells : (c id : ℕ) (v : BoardView) (other : ℕ) (u : BoardView) → Joins (IsByBoard {S = ℕ} c) id v other u (board_view v.writes v.live v.blocks u.blocks v.pending v.room) spent_view
-tells c id v other u s kept at apart there =
-    let writer : ℕ = kept.0 in let log : List (List ℕ) = kept.1 in let P : List ℕ = kept.2 in let rest : List ℕ = kept.3 in
-    let laid : HoldsBoard c writer log P rest s.words s.views = kept.4 in
+tells c id v other u s retained at apart there =
+    let writer : ℕ = retained.0 in let log : List (List ℕ) = retained.1 in let P : List ℕ = retained.2 in let rest : List ℕ = retained.3 in
+    let laid : HoldsBoard c writer log P rest s.words s.views = retained.4 in
     let fit = laid.each id v at in
     let both : BoardView = board_view v.writes v.live v.blocks u.blocks v.pending v.room in
     let was : get_elem? s.views other ≡ some u = sym (set_else s.views id other both apart) ∙ there in
     let theirs = laid.each other u was in
-    let fb : FitsBoard c writer log P id both = record { writes = fit.writes; seen = fit.seen; told = theirs.seen; room = fit.room } in
+    let fb : FitsBoard c writer log P id both = record { writes = fit.writes; seen = fit.seen; returned = theirs.seen; room = fit.room } in
     let fn : FitsBoard c writer log P other spent_view =
-    record { writes = λ t. absurd (true≢false (sym t)); seen = begins_none log; told = begins_none log; room = λ t. absurd (true≢false (sym t)) } in (
+    record { writes = λ t. absurd (true≢false (sym t)); seen = begins_none log; returned = begins_none log; room = λ t. absurd (true≢false (sym t)) } in (
       writer,
       log,
       P,
@@ -214,5 +214,5 @@ opens c words is =
 
     one : (j : ℕ) (w : BoardView) → get_elem? (first ∷ []) j ≡ some w → FitsBoard c 0 [] [] j w
     one zero w e = subst (FitsBoard c 0 [] [] zero) (mathlib.Core.Option.some-injective first w e)
-        record { writes = λ _. (refl, refl, refl); seen = begins_none []; told = begins_none []; room = λ _. refl }
+        record { writes = λ _. (refl, refl, refl); seen = begins_none []; returned = begins_none []; room = λ _. refl }
     one (suc j) w e = absurd (mathlib.Core.Option.some-ne-none w (sym e))

@@ -19,9 +19,9 @@ grown : (n w : ℕ) (views : List DrawerView) → AllFit n w views → AllFit n 
 grown n w views each i v at = let f = each i v at in record { limit = f.limit; out = λ h. (let a = f.out h in omega arith); outs = f.outs; spent = f.spent }
 
 -- the rule after a draw
-held_after : (n w : ℕ) (views : List DrawerView) (id : ℕ) (v : DrawerView) → HoldsClaims n w views
+stored_after : (n w : ℕ) (views : List DrawerView) (id : ℕ) (v : DrawerView) → HoldsClaims n w views
     → get_elem? views id ≡ some v → v.outs ≡ 0 → 0 < v.parts → HoldsClaims n (w + 1) (set views id (after_draw v w))
-held_after n w views id v h at fresh some_part = go (ltb w v.limit) refl
+stored_after n w views id v h at fresh some_part = go (ltb w v.limit) refl
   where
     mine : FitsClaims n w v
     mine = h.each id v at
@@ -66,34 +66,34 @@ small n w views le h =
 
 -- a draw adds 1 to the word, which never wraps
 pub draws : (n slots id : ℕ) (me : Me ℕ DrawerView) → me.0.outs ≡ 0 → 0 < me.0.parts → Allows (IsByClaims n) slots id me 0 (λ k. (k + 1) % 2 ^ 64) (Drew (step slots 0 1 0 none) me)
-draws n slots id me fresh some_part s kept len at bound =
-    let w : ℕ = kept.1.0 in
-    let is : s.words ≡ w ∷ [] = kept.1.1 in
-    let held : HoldsClaims n w s.views = kept.1.2 in
+draws n slots id me fresh some_part s retained len at bound =
+    let w : ℕ = retained.1.0 in
+    let is : s.words ≡ w ∷ [] = retained.1.1 in
+    let stored : HoldsClaims n w s.views = retained.1.2 in
     let found : slice_index s.words 0 ≡ w = ap (λ (l : List ℕ). slice_index l 0) is in
-    let top : w ≤ most_numbers + most_drawers = small n w s.views kept.0 held in
+    let top : w ≤ most_numbers + most_drawers = small n w s.views retained.0 stored in
     let wraps : (w + 1) % 2 ^ 64 ≡ w + 1 = omega arith in
     let words : slice_set s.words 0 ((slice_index s.words 0 + 1) % 2 ^ 64) ≡ (w + 1) ∷ [] = ap (λ (l : List ℕ). slice_set l 0 ((slice_index l 0 + 1) % 2 ^ 64)) is ∙ ap (λ (k : ℕ). k ∷ []) wraps in
     let after : HoldsClaims n (w + 1) (set s.views id (after_draw me.0 (slice_index s.words 0))) = subst
-    (λ (k : ℕ). HoldsClaims n (w + 1) (set s.views id (after_draw me.0 k))) (sym found) (held_after n w s.views id me.0 held at fresh some_part) in
+    (λ (k : ℕ). HoldsClaims n (w + 1) (set s.views id (after_draw me.0 k))) (sym found) (stored_after n w s.views id me.0 stored at fresh some_part) in
     let u : DrawerView = after_draw me.0 (slice_index s.words 0) in
     let there : get_elem? (set s.views id u) id ≡ some u = set_there s.views id me.0 u at in
     let short : length u.list ≤ me.0.limit =
-    (let a = total_at (λ v. length v.list) (set s.views id u) id u there in let b = after.count in let c = (held.each id me.0 at).limit some_part in omega arith) in
-    (u, keeps, tt, (kept.0, (w + 1, words, after)), (refl, refl, short))
+    (let a = total_at (λ v. length v.list) (set s.views id u) id u there in let b = after.count in let c = (stored.each id me.0 at).limit some_part in omega arith) in
+    (u, keeps, tt, (retained.0, (w + 1, words, after)), (refl, refl, short))
 
 -- a drawer with a part to spare gives it to a new one
 pub cuts : (n id : ℕ) (v : DrawerView) → 1 < v.parts → v.outs < v.parts → Splits (IsByClaims {S = ℕ} n) id v (drawer_view v.list (v.parts - 1) v.outs v.limit) (drawer_view [] 1 0 v.limit)
-cuts n id v spare more s kept at =
-    let w : ℕ = kept.1.0 in
-    let h : HoldsClaims n w s.views = kept.1.2 in
+cuts n id v spare more s retained at =
+    let w : ℕ = retained.1.0 in
+    let h : HoldsClaims n w s.views = retained.1.2 in
     let l : DrawerView = drawer_view v.list (v.parts - 1) v.outs v.limit in
     let r : DrawerView = drawer_view [] 1 0 v.limit in
     let mine : FitsClaims n w v = h.each id v at in (
-      kept.0,
+      retained.0,
       (
         w,
-        kept.1.1,
+        retained.1.1,
         record {
           parts = (let s' = total_set (λ v. v.parts) s.views id v l at in let p = h.parts in omega (arith, total_snoc (λ v. v.parts) (set s.views id l) r));
           drawn = λ x. (let s' = total_set (λ v. times x v.list) s.views id v l at in let d = h.drawn x in omega (arith, total_snoc (λ v. times x v.list) (set s.views id l) r));
@@ -108,17 +108,17 @@ cuts n id v spare more s kept at =
 
 -- a drawer takes in another, which is spent
 pub glues : (n id : ℕ) (v : DrawerView) (other : ℕ) (w : DrawerView) → 0 < v.parts → Joins (IsByClaims {S = ℕ} n) id v other w (both_views v w) spent_view
-glues n id v other u some_part s kept at apart there =
-    let w : ℕ = kept.1.0 in
-    let h : HoldsClaims n w s.views = kept.1.2 in
+glues n id v other u some_part s retained at apart there =
+    let w : ℕ = retained.1.0 in
+    let h : HoldsClaims n w s.views = retained.1.2 in
     let both : DrawerView = both_views v u in
     let was : get_elem? s.views other ≡ some u = sym (Rattle.atomic_table.proofs.Lists.set_else s.views id other both apart) ∙ there in
     let mine : FitsClaims n w v = h.each id v at in
     let theirs : FitsClaims n w u = h.each other u was in (
-      kept.0,
+      retained.0,
       (
         w,
-        kept.1.1,
+        retained.1.1,
         record {
           parts = (let a = total_set (λ v. v.parts) s.views id v both at in let b = total_set (λ v. v.parts) (set s.views id both) other u spent_view there in let p = h.parts in omega arith);
           drawn = λ x. (let a = total_set (λ v. times x v.list) s.views id v both at in let b = total_set (λ v. times x v.list)

@@ -42,7 +42,7 @@ module _ (part : ℕ → Part → Type 0) where
   pub place_next : (old cur : List (Option Part)) (ns before left : List ℕ) (j : ℕ) (x : Part) → before ≡ left ++ j ∷ []
       → Places part old cur ns before → j < length cur → part j x → Places part old (set cur j (Some x)) ns left
   place_next old cur ns before left j x e h less is = record {
-    kept = λ k s. stands_set cur j k x less is (inl (h.kept k s));
+    retained = λ k s. stands_set cur j k x less is (inl (h.retained k s));
     put = λ k some_time. ⊎_elim (λ (s : StandsAt part cur k). inl (stands_set cur j k x less is (inl s)))
         (λ (t : 0 < times k before). dite (ℕ_discrete k j) (λ (same : k ≡ j). inl (stands_set cur j k x less is (inr same)))
         (λ (n : k ≢ j). inr (at_least k n (subst (λ (l : List ℕ). 0 < times k l) e t))))
@@ -54,7 +54,7 @@ module _ (part : ℕ → Part → Type 0) where
           (λ (z : times k (j ∷ []) ≡ 0). omega arith) (λ (z : times k (j ∷ []) ≢ 0). absurd (n (times_of_one k j (omega arith))))
 
   pub place_none : (old : List (Option Part)) (ns : List ℕ) → Places part old old ns ns
-  place_none old ns = record { kept = λ k s. s; put = λ k s. inr s }
+  place_none old ns = record { retained = λ k s. s; put = λ k s. inr s }
 
   -- a part is still in its place after another place is changed
   pub stand_after : (old : List (Option Part)) (j k : ℕ) (x : Option Part) → k ≢ j → StandsAt part old k → StandsAt part (set old j x) k

@@ -91,7 +91,7 @@ placed_next part size w drawers after placed placed' is h drawn p l = record {
       (let t : times_over j (lists_of after) ≡ times_over j (lists_of drawers) + times j w.drawer.list = ap (λ (ds : List Drawing). times_over j (lists_of ds)) is ∙ lists_more j drawers w.drawer in
       let n : times j (numbers w.done.items) ≡ times j w.drawer.list = ap (times j) drawn in
       dite (ℕ_discrete (times j w.drawer.list) 0)
-      (λ (z : times j w.drawer.list ≡ 0). p.kept j (h.put j (omega arith)))
+      (λ (z : times j w.drawer.list ≡ 0). p.retained j (h.put j (omega arith)))
       (λ (z : times j w.drawer.list ≢ 0). ⊎_elim (λ (x : StandsAt part placed' j). x) (λ (x : 0 < times j []). absurd (omega arith)) (p.put j (omega arith))));
 }
 

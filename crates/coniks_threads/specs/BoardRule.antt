@@ -8,12 +8,12 @@ use Rattle.coniks_threads.specs.Blocks.{flat, AllFive}
 use Rattle.coniks_threads.specs.Lists.{Begins}
 
 abbrev pub board_view : Bool → Bool → List (List ℕ) → List (List ℕ) → List ℕ → ℕ → BoardView
-board_view writes live blocks told pending room =
-    record { writes = writes; live = live; blocks = blocks; told = told; pending = pending; room = room }
+board_view writes live blocks returned pending room =
+    record { writes = writes; live = live; blocks = blocks; returned = returned; pending = pending; room = room }
 
 -- the view of the publisher's seat, of a watcher's seat, and what is left of a view that was taken in
 abbrev pub publisher_view : List (List ℕ) → List (List ℕ) → List ℕ → ℕ → BoardView
-publisher_view blocks told pending room = board_view true true blocks told pending room
+publisher_view blocks returned pending room = board_view true true blocks returned pending room
 
 abbrev pub watcher_view : List (List ℕ) → ℕ → BoardView
 watcher_view blocks room = board_view false true blocks [] [] room
@@ -26,7 +26,7 @@ spent_view = board_view false false [] [] [] 0
 pub record FitsBoard (capacity writer : ℕ) (published : List (List ℕ)) (pending : List ℕ) (i : ℕ) (v : BoardView) : Type 0 where
   pub writes : v.writes ≡ true → (i ≡ writer) × (v.blocks ≡ published) × (v.pending ≡ pending)
   pub seen : Begins v.blocks published
-  pub told : Begins v.told published
+  pub returned : Begins v.returned published
   pub room : v.live ≡ true → v.room ≡ capacity
 
 -- The words are the count, then those of the published blocks, then those stored of the next block,
@@ -47,11 +47,11 @@ IsByBoard capacity s = (writer : ℕ) × (published : List (List ℕ)) × (pendi
 module _ {S : Type 0} where
   -- a word of the next block was stored
   abbrev pub Stored : Step S → Me S BoardView → ℕ → Me S BoardView → Type 0
-  Stored s v found w = (w.1 ≡ v.1) × (w.0 ≡ publisher_view v.0.blocks v.0.told (v.0.pending ++ s.first ∷ []) v.0.room)
+  Stored s v found w = (w.1 ≡ v.1) × (w.0 ≡ publisher_view v.0.blocks v.0.returned (v.0.pending ++ s.first ∷ []) v.0.room)
 
   -- the next block was published
   abbrev pub Published : Step S → Me S BoardView → ℕ → Me S BoardView → Type 0
-  Published s v found w = (w.1 ≡ v.1) × (w.0 ≡ publisher_view (v.0.blocks ++ v.0.pending ∷ []) v.0.told [] v.0.room)
+  Published s v found w = (w.1 ≡ v.1) × (w.0 ≡ publisher_view (v.0.blocks ++ v.0.pending ∷ []) v.0.returned [] v.0.room)
 
   -- as many blocks as the count are seen, and what was seen begins them
   abbrev pub Looked : Step S → Me S BoardView → ℕ → Me S BoardView → Type 0
@@ -64,8 +64,8 @@ module _ {S : Type 0} where
 
   -- the blocks that the seat was given begin its own
   abbrev pub Compared : Step S → Me S BoardView → ℕ → Me S BoardView → Type 0
-  Compared s v found w = (w ≡ v) × Begins v.0.told v.0.blocks
+  Compared s v found w = (w ≡ v) × Begins v.0.returned v.0.blocks
 
 -- a view that was given what another has seen
-abbrev pub told_view : BoardView → BoardView → BoardView
-told_view v w = board_view v.writes v.live v.blocks w.blocks v.pending v.room
+abbrev pub returned_view : BoardView → BoardView → BoardView
+returned_view v w = board_view v.writes v.live v.blocks w.blocks v.pending v.room

@@ -24,5 +24,5 @@ module _ (part : ℕ → Part → Type 0) where
 
   -- filled places stay filled, and parts with these numbers are in their places, except for the remaining numbers
   pub record Places (old new : List (Option Part)) (ns left : List ℕ) : Type 0 where
-    pub kept : (j : ℕ) → StandsAt old j → StandsAt new j
+    pub retained : (j : ℕ) → StandsAt old j → StandsAt new j
     pub put : (j : ℕ) → 0 < times j ns → StandsAt new j ⊎ (0 < times j left)

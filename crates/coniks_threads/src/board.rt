@@ -3,7 +3,7 @@ ghost use Rattle.std.specs.Prelude.{◌≡◌, ◌≤◌, ◌<◌, ◌+◌, ◌*
 ghost use Rattle.coniks_threads.specs.Limits.{most_heads};
 ghost use Rattle.coniks_threads.specs.Lists.{Begins, last_of};
 ghost use Rattle.coniks_threads.specs.Blocks.{flat, AllFive};
-ghost use Rattle.coniks_threads.specs.BoardRule.{publisher_view, watcher_view, told_view};
+ghost use Rattle.coniks_threads.specs.BoardRule.{publisher_view, watcher_view, returned_view};
 ghost use Rattle.coniks_threads.specs.Boards.{board_end};
 
 use crate::board_rule::{
@@ -64,7 +64,7 @@ impl Model for Publisher {
     ghost view = { λ p. board_end p.seat.table_id (heads_in_words p.seat.me.0.blocks) };
 
     // Between calls no word of a next block is stored.
-    ghost invariant = { λ p. (p.seat.me.1 ≡ []) × (p.seat.me.0 ≡ publisher_view p.seat.me.0.blocks p.seat.me.0.told [] p.seat.me.0.room)
+    ghost invariant = { λ p. (p.seat.me.1 ≡ []) × (p.seat.me.0 ≡ publisher_view p.seat.me.0.blocks p.seat.me.0.returned [] p.seat.me.0.room)
         × (length p.seat.me.0.blocks ≡ p.count) × (p.count ≤ p.seat.me.0.room)
         × (p.seat.table_id.words ≡ 5 * p.seat.me.0.room + 1) × (p.last ≡ last_of (heads_in_words p.seat.me.0.blocks)) };
 }
@@ -133,11 +133,11 @@ fn put(
     word: u64,
 )
     requires table { (seat.old.table_id ≡ table.now.table_id) × (table.now.table_id.words ≡ 5 * table.now.key + 1) }
-    requires publisher { seat.old.me.0 ≡ publisher_view seat.old.me.0.blocks seat.old.me.0.told seat.old.me.0.pending seat.old.me.0.room }
+    requires publisher { seat.old.me.0 ≡ publisher_view seat.old.me.0.blocks seat.old.me.0.returned seat.old.me.0.pending seat.old.me.0.room }
     requires place { at ≡ 5 * length seat.old.me.0.blocks + length seat.old.me.0.pending + 1 }
     requires room { (length seat.old.me.0.pending < 5) × (length seat.old.me.0.blocks < table.now.key) }
     ensures same { (seat.new.table_id ≡ seat.old.table_id) × (seat.new.me.1 ≡ seat.old.me.1) }
-    ensures view { seat.new.me.0 ≡ publisher_view seat.old.me.0.blocks seat.old.me.0.told (seat.old.me.0.pending ++ word ∷ []) seat.old.me.0.room }
+    ensures view { seat.new.me.0 ≡ publisher_view seat.old.me.0.blocks seat.old.me.0.returned (seat.old.me.0.pending ++ word ∷ []) seat.old.me.0.room }
 {
     table.store::<StoreWord>(seat, at, word);
 }
@@ -145,11 +145,11 @@ fn put(
 /// Stores the count, which publishes the next block.
 fn show(table: &Shared<u8, BoardView, usize, ByBoard>, seat: &mut Seat<u8, BoardView>, count: usize)
     requires table { (seat.old.table_id ≡ table.now.table_id) × (table.now.table_id.words ≡ 5 * table.now.key + 1) }
-    requires publisher { seat.old.me.0 ≡ publisher_view seat.old.me.0.blocks seat.old.me.0.told seat.old.me.0.pending seat.old.me.0.room }
+    requires publisher { seat.old.me.0 ≡ publisher_view seat.old.me.0.blocks seat.old.me.0.returned seat.old.me.0.pending seat.old.me.0.room }
     requires whole { length seat.old.me.0.pending ≡ 5 }
     requires count { (count ≡ length seat.old.me.0.blocks + 1) × (count ≤ table.now.key) }
     ensures same { (seat.new.table_id ≡ seat.old.table_id) × (seat.new.me.1 ≡ seat.old.me.1) }
-    ensures view { seat.new.me.0 ≡ publisher_view (seat.old.me.0.blocks ++ seat.old.me.0.pending ∷ []) seat.old.me.0.told [] seat.old.me.0.room }
+    ensures view { seat.new.me.0 ≡ publisher_view (seat.old.me.0.blocks ++ seat.old.me.0.pending ∷ []) seat.old.me.0.returned [] seat.old.me.0.room }
 {
     table.store::<StoreCount>(seat, 0, count as u64);
 }
@@ -162,11 +162,11 @@ fn put_block(
     block: &[u64; 5],
 )
     requires table { (seat.old.table_id ≡ table.now.table_id) × (table.now.table_id.words ≡ 5 * table.now.key + 1) × (table.now.key ≤ most_heads) }
-    requires publisher { seat.old.me.0 ≡ publisher_view seat.old.me.0.blocks seat.old.me.0.told [] seat.old.me.0.room }
+    requires publisher { seat.old.me.0 ≡ publisher_view seat.old.me.0.blocks seat.old.me.0.returned [] seat.old.me.0.room }
     requires count { (count.old ≡ length seat.old.me.0.blocks) × (count.old < table.now.key) }
     ensures same { (seat.new.table_id ≡ seat.old.table_id) × (seat.new.me.1 ≡ seat.old.me.1) }
     ensures counted { count.new ≡ count.old + 1 }
-    ensures view { seat.new.me.0 ≡ publisher_view (seat.old.me.0.blocks ++ block.now ∷ []) seat.old.me.0.told [] seat.old.me.0.room }
+    ensures view { seat.new.me.0 ≡ publisher_view (seat.old.me.0.blocks ++ block.now ∷ []) seat.old.me.0.returned [] seat.old.me.0.room }
 {
     let at = 5 * *count + 1;
     put(table, seat, at, block[0]);
@@ -246,7 +246,7 @@ fn tell(
     requires table { (seat.old.table_id ≡ table.now.table_id) × (other.table_id ≡ table.now.table_id) × (0 < table.now.table_id.words) }
     requires free { other.me.1 ≡ [] }
     ensures same { (seat.new.table_id ≡ seat.old.table_id) × (seat.new.me.1 ≡ seat.old.me.1) }
-    ensures view { seat.new.me.0 ≡ told_view seat.old.me.0 other.me.0 }
+    ensures view { seat.new.me.0 ≡ returned_view seat.old.me.0 other.me.0 }
 {
     table.join_seat::<Tell>(seat, other);
 }
@@ -256,7 +256,7 @@ fn compare(table: &Shared<u8, BoardView, usize, ByBoard>, seat: &mut Seat<u8, Bo
     requires table { (seat.old.table_id ≡ table.now.table_id) × (0 < table.now.table_id.words) }
     requires publisher { seat.old.me.0.writes ≡ true }
     ensures same { (seat.new.table_id ≡ seat.old.table_id) × (seat.new.me ≡ seat.old.me) }
-    ensures begins { Begins seat.old.me.0.told seat.old.me.0.blocks }
+    ensures begins { Begins seat.old.me.0.returned seat.old.me.0.blocks }
 {
     table.load::<Compare>(seat, 0);
 }

@@ -11,7 +11,7 @@ pub struct BoardView {
     pub writes: bool,
     pub live: bool,
     pub blocks: LinkedList<[u64; 5]>,
-    pub told: LinkedList<[u64; 5]>,
+    pub returned: LinkedList<[u64; 5]>,
     pub pending: LinkedList<u64>,
     pub room: u64,
 }
@@ -88,9 +88,9 @@ impl Split<BoardView> for Witness {
 pub struct Tell;
 
 impl Join<BoardView> for Tell {
-    ghost use Rattle.coniks_threads.specs.BoardRule.{told_view, spent_view};
+    ghost use Rattle.coniks_threads.specs.BoardRule.{returned_view, spent_view};
 
-    ghost both = { told_view };
+    ghost both = { returned_view };
 
     ghost spent = { spent_view };
 }

@@ -13,6 +13,7 @@ ghost use Rattle.coniks_threads.specs.Grown.{IsOldMap, unchanged};
 use crate::gate::Gate;
 use crate::growing::{Growing, Old};
 use crate::jobs::{MAX_DEPTH, all_jobs};
+use crate::parallelism::Parallelism;
 use crate::pool::all_parts;
 use crate::upwards::join_upwards;
 use coniks_proof::{Hash32, Nonce, Prefix};
@@ -30,14 +31,15 @@ const ENOUGH_JOBS: u32 = 5;
 /// The number of changes for each worker from which the number of jobs is doubled.
 const MANY_CHANGES: usize = 4096;
 
-/// Returns the split depth in use for this number of workers.
+/// Returns the split depth in use for this number of workers and of changes.
 ///
-/// It is at most the depth that was asked for. It is also at most the one that gives each worker 32 jobs, or 64 jobs if
+/// It is at most the depth that was requested. It is also at most the one that gives each worker 32 jobs, or 64 jobs if
 /// there are `MANY_CHANGES` for each.
-pub(crate) fn cut_for(workers: usize, changes: usize, depth: usize) -> usize
-    requires { 1 ≤ workers }
-    ensures { result ≤ depth }
+pub(crate) fn cut_for(parallelism: Parallelism, changes: usize) -> usize
+    ensures { result ≤ parallelism.depth }
 {
+    let workers = parallelism.workers();
+    let depth = parallelism.depth();
     let enough = (workers.ilog2() + ENOUGH_JOBS) as usize;
     if changes / workers >= MANY_CHANGES {
         min(depth, enough + 1)
@@ -109,7 +111,7 @@ pub fn build<H: Hash32 + Sync, G: Gate + Sync, R: Threads + Sync>(
     if changes.is_empty() {
         return Ok(unchanged_part(root));
     }
-    let depth = cut_for(workers, changes.len(), depth);
+    let depth = cut_for(Parallelism::nearest(workers, depth), changes.len());
     let jobs = all_jobs(alloc, changes, depth)?;
     let old = Old {
         tree,
@@ -122,6 +124,6 @@ pub fn build<H: Hash32 + Sync, G: Gate + Sync, R: Threads + Sync>(
         changes,
         jobs: &jobs,
     };
-    let mut parts = all_parts(rt, alloc, jobs.len(), workers, &growing, gate)?;
+    let mut parts = all_parts(rt, alloc, workers, &growing, gate)?;
     Ok(join_upwards(&old, depth, &Prefix::root(), changes, &mut parts)?)
 }

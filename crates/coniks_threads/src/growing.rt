@@ -16,6 +16,13 @@ use crate::work::Work;
 use coniks_proof::{Hash32, Nonce, Prefix};
 use coniks_tree::{Change, OutOfMemory, Part, Root, Tree};
 
+/// Proves that a prefix has at most 256 bits.
+fn short(prefix: &Prefix)
+    ensures { length prefix.now ≤ 256 }
+{
+    let _length = prefix.len();
+}
+
 /// Returns the part that the old root shows under a prefix, or nothing if there is no root.
 pub(crate) fn old_part(tree: &Tree, root: Option<Root>, prefix: &Prefix) -> Part
     requires { IfSome root (λ r. r.0 < length tree.now.nodes) }
@@ -28,8 +35,7 @@ pub(crate) fn old_part(tree: &Tree, root: Option<Root>, prefix: &Prefix) -> Part
         → IsOldMap by (table_of tree.now) root old
         → Stands by (table_of tree.now) result prefix.now (under prefix.now old) }
 {
-    // Read for the contract alone.
-    let _level = prefix.len();
+    short(prefix);
     match root {
         Some(root) => tree.part_at(root, prefix),
         None => Part::Nothing,
@@ -89,6 +95,10 @@ impl<'a, H: Hash32> Work for Growing<'a, H> {
     ghost part = { λ w number part. (job : Job) × (slice_get w.jobs.now number ≡ Some job)
         × IsNewPart (hashing (H.digest_of w.old.now.h.now) w.old.now.nonce.now.0) (table_of w.old.now.tree.now)
         w.old.now.root job.prefix (entries_in (in_range job w.changes.now)) part };
+
+    fn jobs(&self) -> usize {
+        self.jobs.len()
+    }
 
     fn run(&self, number: usize) -> Result<Part, OutOfMemory> {
         let job = job_at(self.jobs, number);

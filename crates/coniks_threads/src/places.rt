@@ -36,8 +36,6 @@ pub(crate) fn place<W: Work>(placed: &mut [Option<Part>], mut done: Vec<(usize, 
     ensures len { length placed.new ≡ length placed.old }
     ensures places { Places (W.part work.now) placed.old placed.new (numbers done.items) [] }
 {
-    // Read for the contract alone.
-    let _ = work;
     while let Some((job, part)) = done.pop() {
         put(placed, job, part);
     }
@@ -52,8 +50,6 @@ pub(crate) fn unwrapped<W: Work>(
     requires { (j : ℕ) → j < length placed.old → StandsAt (W.part work.now) placed.old j }
     ensures { IfOk result (λ v. AllFrom (W.part work.now) 0 v.items × (length v.items ≡ length placed.old)) }
 {
-    // Read for the contract alone.
-    let _ = work;
     let mut parts = Vec::with_capacity(alloc, placed.len())?;
     for j in 0..placed.len() {
         let Some(part) = placed[j].take() else {

@@ -16,13 +16,6 @@ use std::alloc::{AllocError, Global};
 use std::cmp::min;
 use std::thread::Threads;
 
-/// Returns the number of workers of a pool: as many as are asked for, and at most as many as there are jobs.
-fn pool_size(workers: usize, count: usize) -> usize
-    ensures { (result ≤ workers) × (result ≤ count) }
-{
-    min(workers, count)
-}
-
 /// Returns a pool of as many workers as possible. The worker with the first drawer is the last one.
 fn make_workers(
     alloc: Global,
@@ -88,13 +81,12 @@ fn collect<W: Work>(
 /// Does one job after another, on the caller's thread alone.
 pub(crate) fn alone<W: Work, G: Gate>(
     alloc: Global,
-    count: usize,
     work: &W,
     gate: &G,
 ) -> Result<Vec<Part>, OutOfMemory>
-    requires { count ≡ W.count work.now }
-    ensures { IfOk result (λ v. AllFrom (W.part work.now) 0 v.items × (length v.items ≡ count)) }
+    ensures { IfOk result (λ v. AllFrom (W.part work.now) 0 v.items × (length v.items ≡ W.count work.now)) }
 {
+    let count = work.jobs();
     let mut parts = Vec::with_capacity(alloc, count)?;
     for job in 0..count {
         gate.enter(job);
@@ -113,24 +105,24 @@ pub(crate) fn alone<W: Work, G: Gate>(
 pub(crate) fn all_parts<W: Work + Sync, G: Gate + Sync, R: Threads + Sync>(
     rt: &R,
     alloc: Global,
-    count: usize,
     workers: usize,
     work: &W,
     gate: &G,
 ) -> Result<Vec<Part>, OutOfMemory>
     requires workers { (1 ≤ workers) × (workers ≤ most_drawers) }
-    requires count { (count ≡ W.count work.now) × (count ≤ most_numbers) }
-    ensures { IfOk result (λ v. AllFrom (W.part work.now) 0 v.items × (length v.items ≡ count)) }
+    requires count { W.count work.now ≤ most_numbers }
+    ensures { IfOk result (λ v. AllFrom (W.part work.now) 0 v.items × (length v.items ≡ W.count work.now)) }
 {
-    let workers = pool_size(workers, count);
+    let count = work.jobs();
+    let workers = min(workers, count);
     if workers <= 1 {
-        return Ok(alone(alloc, count, work, gate)?);
+        return Ok(alone(alloc, work, gate)?);
     }
     let Ok((claims, first)) = Claims::new(alloc, count) else {
-        return Ok(alone(alloc, count, work, gate)?);
+        return Ok(alone(alloc, work, gate)?);
     };
     let Ok(mut pool) = make_workers(alloc, &claims, first, workers) else {
-        return Ok(alone(alloc, count, work, gate)?);
+        return Ok(alone(alloc, work, gate)?);
     };
     let mut placed = room(alloc, count)?;
     run_workers(rt, &claims, work, gate, pool.as_mut_slice());

@@ -1,6 +1,6 @@
 //! The work of each job.
 
-ghost use Rattle.std.specs.Prelude.{ℕ, ◌<◌, IfOk};
+ghost use Rattle.std.specs.Prelude.{ℕ, ◌≡◌, ◌<◌, IfOk};
 
 use coniks_tree::{OutOfMemory, Part};
 
@@ -14,6 +14,10 @@ pub(crate) trait Work {
 
     /// The part that the job of this number makes.
     ghost part: { Self → ℕ → Part → Type 0 };
+
+    /// Returns the number of jobs.
+    fn jobs(&self) -> usize
+        ensures { result ≡ count self.now };
 
     /// Does the job of this number.
     fn run(&self, job: usize) -> Result<Part, OutOfMemory>

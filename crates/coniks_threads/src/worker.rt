@@ -59,28 +59,26 @@ pub(crate) fn run_workers<W: Work + Sync, G: Gate + Sync, R: Threads + Sync>(
         run_worker(&mut pool[0], claims, work, gate);
         return;
     }
-    let (first, others) = pool.split_at_mut(1);
-    run_apart(rt, claims, work, gate, &mut first[0], others);
+    run_apart(rt, claims, work, gate, pool);
 }
 
-/// Runs a worker on a thread of its own, and the others meanwhile.
+/// Runs the first worker on a thread of its own, and the others meanwhile.
 #[cycle(pool)]
 fn run_apart<W: Work + Sync, G: Gate + Sync, R: Threads + Sync>(
     rt: &R,
     claims: &Claims,
     work: &W,
     gate: &G,
-    first: &mut Worker,
-    others: &mut [Worker],
+    pool: &mut [Worker],
 )
-    requires some { 0 < length others.old }
-    requires few { length others.old < W.count work.now }
-    requires first { IsFreshWorker claims.now (W.count work.now) first.old }
-    requires others { AllFresh claims.now (W.count work.now) others.old }
-    ensures first { Worked (W.part work.now) first.old first.new }
-    ensures len { length others.new ≡ length others.old }
-    ensures others { AllWorked (W.part work.now) others.old others.new }
+    requires some { 1 < length pool.old }
+    requires few { length pool.old ≤ W.count work.now }
+    requires fresh { AllFresh claims.now (W.count work.now) pool.old }
+    ensures len { length pool.new ≡ length pool.old }
+    ensures all { AllWorked (W.part work.now) pool.old pool.new }
 {
+    let (first, others) = pool.split_at_mut(1);
+    let first = &mut first[0];
     let mut apart = ||
         requires { IsFreshWorker claims.now (W.count work.now) first.now }
         ensures { Worked (W.part work.entry.now) first.entry.now first.exit.now }

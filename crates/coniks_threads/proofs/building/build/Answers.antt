@@ -1,4 +1,4 @@
-use Rattle.std.proofs.Common.{◌≡◌, ◌∙◌, sym, ℕ, [], Some, slice_get, length, refl, arith}
+use Rattle.std.proofs.Common.{◌≡◌, ℕ, [], Some, slice_get, length, refl, arith}
 use Rattle.std.proofs.lemmas.Bool.Decides.{nat_tests}
 use Rattle.coniks_proof.specs.Hashing.{hashing}
 use Rattle.coniks_tree.specs.Trees.{table_of}
@@ -24,7 +24,7 @@ join_upwards-requires-clause-parts g c =
     let parts = c.in_ok-parts.parts.items in
     let part : ℕ → Part → Type 0 = λ n x. (job : Job) × (slice_get jobs n ≡ Some job) × IsNewPart by t c.args.root job.prefix (entries_in (in_range job c.args.changes.now)) x in
     let done = numbered_done by t c.args.root c.args.changes.now jobs part (λ n x p. p) 0 [] jobs parts refl refl
-    c.in_ok-parts.ensures.0 (c.in_ok-parts.ensures.1 ∙ c.len.ensures ∙ sym c.deref.ensures.len) in
+    c.in_ok-parts.ensures.0 c.in_ok-parts.ensures.1 in
     let ready = parts_ready by t c.args.root c.cut_for-depth.result c.root.result (entries_in c.args.changes.now) jobs c.in_ok-jobs.jobs.items parts
     c.root.ensures c.deref.ensures.value c.in_ok-jobs.ensures.jobs done in
     ([], parts, refl, ready)

@@ -23,7 +23,7 @@ unwrapped-requires g c j less =
     let len : length ws ≡ length vs = c.in_ok-collect.ensures.len ∙ ap length was in
     let k : c.in_ok-placed.placed.len ≡ length vs = search rules in
     let now : c.as_mut_slice-3.result.now ≡ ws = c.as_mut_slice-3.ensures.value ∙ written ws vs c.in_ok-placed.placed.len len k in
-    let n : length vs ≡ c.args.count = c.in_ok-placed.ensures in
-    let m : c.in-Ok.claims.limit ≡ c.args.count = search rules in
+    let n : length vs ≡ c.jobs-count.result = c.in_ok-placed.ensures in
+    let m : c.in-Ok.claims.limit ≡ c.jobs-count.result = search rules in
     let l : length c.as_mut_slice-3.result.now ≡ length ws = ap length now in
     subst (λ (p : List (Option Part)). StandsAt part p j) (sym now) (c.in_ok-collect.ensures.stand j (omega arith))
