@@ -70,18 +70,18 @@ abbrev Rival : Body → RawBody → Bool
 Rival body raw = has_same_before body (raw_body raw)
 
 passes : (body found : Body) (raw : RawBody) (r b : Bool) → found ≡ raw_body raw → r ≡ has_same_before body found → r ≡ b → Rival body raw ≡ b
-passes body found raw r b is told so = ap (has_same_before body) (sym is) ∙ sym told ∙ so
+passes body found raw r b is reported so = ap (has_same_before body) (sym is) ∙ sym reported ∙ so
 
 -- one place more has a rival, which is moved
 pub rival-more : (body found : Body) (xs ys : List RawBody) (k i : ℕ) (d : RawBody) (r : Bool) → FiltersInPlace (Rival body) xs ys k i → i < length xs
     → found ≡ raw_body (get_or ys i d) → r ≡ has_same_before body found → r ≡ true → FiltersInPlace (Rival body) xs (set ys k (get_or ys i d)) (k + 1) (i + 1)
-rival-more body found xs ys k i d r inv within is told so =
+rival-more body found xs ys k i d r inv within is reported so =
     let here : i < length ys = omega (arith, inv.long) in
-    FiltersInPlace-more_set inv here (passes body found (get_or ys i d) r true is told so) (within-same ys i d (get_or ys i d) here)
+    FiltersInPlace-more_set inv here (passes body found (get_or ys i d) r true is reported so) (within-same ys i d (get_or ys i d) here)
 
 -- one place more has none
 pub other-more : (body found : Body) (xs ys : List RawBody) (k i : ℕ) (d : RawBody) (r : Bool) → FiltersInPlace (Rival body) xs ys k i → i < length xs
     → found ≡ raw_body (get_or ys i d) → r ≡ has_same_before body found → r ≡ false → FiltersInPlace (Rival body) xs ys k (i + 1)
-other-more body found xs ys k i d r inv within is told so =
+other-more body found xs ys k i d r inv within is reported so =
     let here : i < length ys = omega (arith, inv.long) in
-    FiltersInPlace-more_no inv here (passes body found (get_or ys i d) r false is told so) (within-same ys i d (get_or ys i d) here)
+    FiltersInPlace-more_no inv here (passes body found (get_or ys i d) r false is reported so) (within-same ys i d (get_or ys i d) here)

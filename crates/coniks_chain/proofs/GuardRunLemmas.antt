@@ -251,8 +251,8 @@ module _ (hash : List ℕ → List ℕ) (verdict : List ℕ → List ℕ → Boo
             (which chain e x k at);
         last = sym (last-push chain e);
         asked = λ c is. absurd (cc);
-        abandoned = λ c kept.
-            let has = has-filtered (has_same_before b) s.abandoned c kept in
+        abandoned = λ c retained.
+            let has = has-filtered (has_same_before b) s.abandoned c retained in
             let old = inv.abandoned c has in (
               omega (arith, old.0, prev, later),
               λ k x at is. ⊎_elim
@@ -410,7 +410,7 @@ module _ (hash : List ℕ → List ℕ) (verdict : List ℕ → List ℕ → Boo
   moved chain s next inv (adopts entry some (begins is_empty formed is)) = absurd (some (ap (λ (x : Guarded). x.signed) is_empty))
 
   -- what holds after some records, of all that was signed
-  record Told (past : List Entry) (seen : List Guarded) (chain : List Entry) (s : Guarded) : Type 0 where
+  record Reported (past : List Entry) (seen : List Guarded) (chain : List Entry) (s : Guarded) : Type 0 where
     inv : Inv hash verdict chain s
     begun : Begins past chain
     returned : (e : Entry) → IsReturned seen e → HasBodyOf chain e
@@ -429,26 +429,26 @@ module _ (hash : List ℕ → List ℕ) (verdict : List ℕ → List ℕ → Boo
   signed-more seen next b was = record { place = was.place; stored = was.stored; there = front-of seen next was.stored was.place was.there; last = was.last }
 
   -- one record more
-  told-more : (past : List Entry) (seen : List Guarded) (chain : List Entry) (s next : Guarded) → Told past seen chain s → (m : Moved hash verdict chain s next)
-      → Told past (seen ++ next ∷ []) m.after next
-  told-more past seen chain s next told m = record {
+  reported-more : (past : List Entry) (seen : List Guarded) (chain : List Entry) (s next : Guarded) → Reported past seen chain s → (m : Moved hash verdict chain s next)
+      → Reported past (seen ++ next ∷ []) m.after next
+  reported-more past seen chain s next reported m = record {
     inv = m.inv;
-    begun = m.begun past told.begun;
+    begun = m.begun past reported.begun;
     returned = λ e was. ⊎_elim
         (λ (old : slice_get seen was.place ≡ Some was.stored).
-        m.holds e (told.returned e (record { place = was.place; stored = was.stored; there = old; signed = was.signed })))
+        m.holds e (reported.returned e (record { place = was.place; stored = was.stored; there = old; signed = was.signed })))
         (λ (new : next ≡ was.stored). signed-last m.after next e m.inv (ap (λ (x : Guarded). x.signed) new ∙ was.signed))
         (which seen next was.stored was.place was.there);
     only = λ e has. ⊎_elim
         (λ (old : HasBodyOf chain e). ⊎_elim
         (λ (before : HasBodyOf past e). inl before)
         (λ (was : IsSigned seen e.body). inr (signed-more seen next e.body was))
-        (told.only e old))
+        (reported.only e old))
         (λ (new : IsLast next.signed e.body). inr (record { place = length seen; stored = next; there = get-last seen next; last = new }))
         (m.only e has);
     gone = λ b was. ⊎_elim
         (λ (old : slice_get seen was.place ≡ Some was.stored).
-        m.keeps b (told.gone b (record { place = was.place; stored = was.stored; there = old; named = was.named })))
+        m.keeps b (reported.gone b (record { place = was.place; stored = was.stored; there = old; named = was.named })))
         (λ (new : next ≡ was.stored). barred m.after next b m.inv (subst (λ (x : Guarded). Has x.abandoned b) (sym new) was.named))
         (which seen next was.stored was.place was.there);
   }
@@ -457,14 +457,14 @@ module _ (hash : List ℕ → List ℕ) (verdict : List ℕ → List ℕ → Boo
   record Outcome (past : List Entry) (seen : List Guarded) : Type 0 where
     chain : List Entry
     last : Guarded
-    told : Told past seen chain last
+    reported : Reported past seen chain last
 
-  outcome : (past : List Entry) (rest seen : List Guarded) (chain : List Entry) (s : Guarded) → Told past seen chain s → IsRun hash verdict s rest → Outcome past (seen ++ rest)
-  outcome past [] seen chain s told run =
-      record { chain = chain; last = s; told = subst (λ x. Told past x chain s) (sym (append-nil seen)) told }
-  outcome past (next ∷ rest) seen chain s told run =
-      let m = moved chain s next told.inv run.0 in
-      let out = outcome past rest (seen ++ next ∷ []) m.after next (told-more past seen chain s next told m) run.1 in
+  outcome : (past : List Entry) (rest seen : List Guarded) (chain : List Entry) (s : Guarded) → Reported past seen chain s → IsRun hash verdict s rest → Outcome past (seen ++ rest)
+  outcome past [] seen chain s reported run =
+      record { chain = chain; last = s; reported = subst (λ x. Reported past x chain s) (sym (append-nil seen)) reported }
+  outcome past (next ∷ rest) seen chain s reported run =
+      let m = moved chain s next reported.inv run.0 in
+      let out = outcome past rest (seen ++ next ∷ []) m.after next (reported-more past seen chain s next reported m) run.1 in
       subst (Outcome past) (append_assoc seen (next ∷ []) rest) out
 
   -- a record that is empty, or has the last entry of the past
@@ -503,8 +503,8 @@ module _ (hash : List ℕ → List ℕ) (verdict : List ℕ → List ℕ → Boo
         abandoned = λ b has. absurd (none-in-nothing has.0 b has.1);
       })
 
-  told-first : (past : List Entry) (first : Guarded) → Inv hash verdict past first → Told past (first ∷ []) past first
-  told-first past first inv = record {
+  reported-first : (past : List Entry) (first : Guarded) → Inv hash verdict past first → Reported past (first ∷ []) past first
+  reported-first past first inv = record {
     inv = inv;
     begun = begins-itself past;
     returned = λ e was. ⊎_elim
@@ -520,15 +520,15 @@ module _ (hash : List ℕ → List ℕ) (verdict : List ℕ → List ℕ → Boo
 
 pub guarded : GuardLaw
 guarded hash verdict past policy first rest good one begin run =
-    let out = outcome hash verdict past rest (first ∷ []) past first (told-first hash verdict past first (begun hash verdict past policy first good one begin)) run in
+    let out = outcome hash verdict past rest (first ∷ []) past first (reported-first hash verdict past first (begun hash verdict past policy first good one begin)) run in
     record {
       chain = out.chain;
-      good = out.told.inv.good;
-      policy = (policy_in out.last.signed, out.told.inv.policy);
-      begins = out.told.begun;
-      returned = out.told.returned;
-      only = out.told.only;
-      abandoned = λ e has gone. (out.told.gone e.body gone).not has.place has.member has.there (sym has.same);
+      good = out.reported.inv.good;
+      policy = (policy_in out.last.signed, out.reported.inv.policy);
+      begins = out.reported.begun;
+      returned = out.reported.returned;
+      only = out.reported.only;
+      abandoned = λ e has gone. (out.reported.gone e.body gone).not has.place has.member has.there (sym has.same);
     }
 
 pub never_convict : GuardedNeverConvict

@@ -20,8 +20,8 @@ closing s b c asked open_one (this_one was is) =
     abandoned_now (length s.abandoned, subst (λ (x : Body). slice_get (s.abandoned ++ b ∷ []) (length s.abandoned) ≡ Some x) same (get-last s.abandoned b))
 closing s b c asked open_one (other_one was is) = stays (is ∙ open_one)
 
-kept : (s next : Guarded) (c : Body) → s.asked ≡ Some c → next ≡ s → Steps next c
-kept s next c open_one is = stays (ap (λ (x : Guarded). x.asked) is ∙ open_one)
+retained : (s next : Guarded) (c : Body) → s.asked ≡ Some c → next ≡ s → Steps next c
+retained s next c open_one is = stays (ap (λ (x : Guarded). x.asked) is ∙ open_one)
 
 -- a body can be opened only while no other one is
 same-open : (o : Option Body) (b c : Body) → o ≡ Some c → IfSome o (λ other. other ≡ b) → b ≡ c
@@ -29,18 +29,18 @@ same-open None b c is same = absurd (cc)
 same-open (Some d) b c is same = sym same ∙ same_Some d c is
 
 step : (hash : List ℕ → List ℕ) (verdict : List ℕ → List ℕ → Bool) (s next : Guarded) (c : Body) → s.asked ≡ Some c → Moves hash verdict s next → Steps next c
-step hash verdict s next c open_one (asks may b (ask_settled settled is)) = kept s next c open_one is
+step hash verdict s next c open_one (asks may b (ask_settled settled is)) = retained s next c open_one is
 step hash verdict s next c open_one (asks may b (opens unsettled ok is)) =
     let same = same-open s.asked b c open_one ok.rows.1.1.1.1.1.1.1.1.1.1.0 in
     stays (ap (λ (x : Guarded). x.asked) is ∙ ap Some same)
-step hash verdict s next c open_one (signs replaces b signature valid (sign_settled settled not is)) = kept s next c open_one is
+step hash verdict s next c open_one (signs replaces b signature valid (sign_settled settled not is)) = retained s next c open_one is
 step hash verdict s next c open_one (signs replaces b signature valid (mends asked_to last none is)) = absurd (cc)
 step hash verdict s next c open_one (signs replaces b signature valid (stores unsettled asked is)) =
     subst (λ (x : Guarded). Steps x c) (sym is) (signed_now (same_Some b c (sym asked ∙ open_one)))
-step hash verdict s next c open_one (abandons b (abandon_settled settled is)) = kept s next c open_one is
+step hash verdict s next c open_one (abandons b (abandon_settled settled is)) = retained s next c open_one is
 step hash verdict s next c open_one (abandons b (drops asked unsettled prev closes is)) =
     subst (λ (x : Guarded). Steps x c) (sym is) (closing s b c asked open_one closes)
-step hash verdict s next c open_one (adopts entry some (had_it was is)) = kept s next c open_one is
+step hash verdict s next c open_one (adopts entry some (had_it was is)) = retained s next c open_one is
 step hash verdict s next c open_one (adopts entry some (begins was formed is)) = absurd (some (ap (λ (x : Guarded). x.signed) was))
 
 -- what is accounted in the later records is so in all

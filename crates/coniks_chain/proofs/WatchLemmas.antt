@@ -39,7 +39,7 @@ module _ {H : Type 0} (digest : H → List ℕ → List ℕ) (verdict : List ℕ
   -- the monitor stands at the next place
   pub step-stands : (new : Watched H) → new ≡ record now { before = Some (auditor_after (digest now.hasher) item.0) }
       → new ≡ record was { before = before_at (digest was.hasher) was.before (entries_watched items) (i + 1) }
-  step-stands new kept = kept ∙ ap (λ (w : Watched H). record w { before = Some (auditor_after (digest w.hasher) item.0) }) stands ∙ ap (λ b. record was { before = b }) entry_at
+  step-stands new retained = retained ∙ ap (λ (w : Watched H). record w { before = Some (auditor_after (digest w.hasher) item.0) }) stands ∙ ap (λ b. record was { before = b }) entry_at
 
   -- one step more is sound
   pub sound-more : IsSoundStep (digest now.hasher) verdict now.before now.name now.index item.0 item.1 (answer_of item.1.end)

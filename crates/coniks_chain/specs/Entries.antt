@@ -6,13 +6,20 @@ use Rattle.coniks_chain.specs.declared.entry.Body.{Body}
 use Rattle.coniks_chain.specs.declared.entry.Signature.{Signature}
 use Rattle.coniks_chain.specs.declared.entry.Entry.{Entry}
 
--- the 145 bytes of a body, the parts of the length that their types have
+-- the bytes of a body, and of an entry
+abbrev pub body_length : ℕ
+body_length = 145
+
+abbrev pub entry_length : ℕ
+entry_length = 209
+
+-- the bytes of a body, the parts of the length that their types have
 unfoldable pub body_bytes : Body → Octets
 body_bytes body =
     body.version ∷ to_be_bytes w64 body.t ++ to_be_bytes w64 body.t_prev
     ++ body.root.0 ++ body.previous.0 ++ body.nonce.0 ++ body.policy
 
--- the 209 bytes of an entry: its body's 145 and the signature's 64
+-- the bytes of an entry: its body's and the signature's 64
 abbrev pub entry_bytes : Entry → Octets
 entry_bytes entry = body_bytes entry.body ++ entry.signature.0
 
@@ -20,7 +27,7 @@ entry_bytes entry = body_bytes entry.body ++ entry.signature.0
 abbrev pub part_at : ℕ → ℕ → Octets → Octets
 part_at place n bytes = take n (drop place bytes)
 
--- the body that 145 bytes are
+-- the body that bytes are
 unfoldable pub body_from : Octets → Body
 body_from bytes =
     record {
@@ -33,9 +40,9 @@ body_from bytes =
       policy = part_at 113 32 bytes;
     }
 
--- the entry that 209 bytes are
+-- the entry that bytes are
 abbrev pub entry_from : Octets → Entry
-entry_from bytes = record { body = body_from (take 145 bytes); signature = record { 0 = drop 145 bytes } }
+entry_from bytes = record { body = body_from (take body_length bytes); signature = record { 0 = drop body_length bytes } }
 
 -- the 210 bytes that are hashed to the link of an entry
 abbrev pub link_preimage : Entry → Octets

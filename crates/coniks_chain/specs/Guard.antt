@@ -7,8 +7,8 @@ use Rattle.coniks_chain.specs.declared.entry.Body.{Body}
 use Rattle.coniks_chain.specs.declared.entry.Entry.{Entry}
 use Rattle.coniks_chain.specs.declared.entry.Signature.{Signature}
 use Rattle.coniks_chain.specs.declared.guard_record.RawBody.{RawBody}
-use Rattle.coniks_chain.specs.declared.guard_record.Held.{Held}
-use Rattle.coniks_chain.specs.declared.guard_record.RawHeld.{RawHeld}
+use Rattle.coniks_chain.specs.declared.guard_record.GuardState.{GuardState}
+use Rattle.coniks_chain.specs.declared.guard_record.RawGuardState.{RawGuardState}
 use Rattle.coniks_chain.specs.declared.guard_record.Answer.{Answer}
 use Rattle.coniks_chain.specs.declared.guard_record.Answer.TheVariants.{Abandoned, Signed, Unsettled}
 use Rattle.coniks_chain.specs.declared.guard.Next.{Next}
@@ -48,12 +48,12 @@ abbrev pub asked_in : ℕ → Octets → Option Body
 asked_in has_asked bytes = if has_asked == 0 then None else Some (body_from bytes)
 
 -- the record that these bytes are
-abbrev pub held_in : RawHeld → Held
-held_in raw = record { signed = signed_in raw.has_entry raw.entry; asked = asked_in raw.has_asked raw.asked }
+abbrev pub guard_state_in : RawGuardState → GuardState
+guard_state_in raw = record { signed = signed_in raw.has_entry raw.entry; asked = asked_in raw.has_asked raw.asked }
 
 -- the record with these abandoned bodies
-abbrev pub with_abandoned : Held → List Body → Guarded
-with_abandoned held abandoned = record { signed = held.signed; asked = held.asked; abandoned = abandoned }
+abbrev pub with_abandoned : GuardState → List Body → Guarded
+with_abandoned guard_state abandoned = record { signed = guard_state.signed; asked = guard_state.asked; abandoned = abandoned }
 
 -- whether a body names the same entry as the one before it as another body does
 abbrev pub has_same_before : Body → Body → Bool
@@ -71,7 +71,7 @@ abandoned_after Added abandoned body = abandoned ++ body ∷ []
 
 -- the record that a step for a body makes
 abbrev pub made : Next → List Body → Body → Guarded
-made next abandoned body = with_abandoned next.held (abandoned_after next.effect abandoned body)
+made next abandoned body = with_abandoned next.guard_state (abandoned_after next.effect abandoned body)
 
 -- a body is one of a list
 abbrev pub Has : List Body → Body → Type 0
@@ -142,7 +142,7 @@ pub record IsFirstAskFault (hash : Octets → Octets) (may_begin : Bool) (old : 
   pub here : ¬ Passes hash may_begin old body fault
   pub earlier : PassesAll hash may_begin old body (take (ask_place fault) ask_faults)
 
--- a body is asked for: it is settled and nothing changes, or the key may sign it and it is open then
+-- a body is requested: it is settled and nothing changes, or the key may sign it and it is open then
 pub data Asks (hash : Octets → Octets) (may_begin : Bool) (old : Guarded) (body : Body) (new : Guarded) : Type 0 where
   ask_settled : Settles old body → new ≡ old → Asks hash may_begin old body new
   opens : (¬ Settles old body) → IsAllowed hash may_begin old body

@@ -96,7 +96,7 @@ fn judge<V: Verify>(
 }
 
 /// Returns the state after an entry.
-fn auditor_after<H: Hash32>(h: &H, entry: &Entry) -> AuditorState
+pub fn auditor_after<H: Hash32>(h: &H, entry: &Entry) -> AuditorState
     ensures { result ≡ auditor_after (H.digest_of h.now) entry.now }
 {
     AuditorState {
@@ -205,7 +205,7 @@ impl<H: Hash32 + Drop> Auditor<H> {
     /// - `Verdict` if the signature is not one for the body.
     pub fn feed<V: Verify>(&mut self, entry: &Entry, verify: &V) -> Result<(), AuditFault>
         ensures ok { OnOk result (Follows (V.verdict_of verify.now) self.old.1 entry.now) }
-        ensures kept { OnOk result (self.new ≡ (self.old.0, Some (auditor_after (H.digest_of self.old.0) entry.now))) }
+        ensures retained { OnOk result (self.new ≡ (self.old.0, Some (auditor_after (H.digest_of self.old.0) entry.now))) }
         ensures err { IfErr result (IsFirstEntryFault (V.verdict_of verify.now) self.old.1 entry.now) }
         ensures unchanged { OnErr result (self.new ≡ self.old) }
     {

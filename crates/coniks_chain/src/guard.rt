@@ -10,7 +10,7 @@ ghost use Rattle.coniks_chain.specs.declared.guard.Effect.TheVariants.{Added, Na
 
 use crate::entry::{Body, Entry, Signature, link};
 use crate::evidence::is_well_formed;
-use crate::guard_record::{Held, RawBody};
+use crate::guard_record::{GuardState, RawBody};
 use coniks_proof::Hash32;
 use thiserror::Error;
 
@@ -28,7 +28,7 @@ pub enum Effect {
 /// What a step makes of a record.
 #[derive(Clone, Copy, Debug, PartialEq, Eq)]
 pub struct Next {
-    pub held: Held,
+    pub guard_state: GuardState,
     pub effect: Effect,
 }
 
@@ -88,11 +88,11 @@ pub enum AdoptFault {
 
 impl Next {
     /// Returns what leaves a record as it is.
-    fn unchanged(held: &Held) -> Next
-        ensures { result ≡ record { held = held.now; effect = Same } }
+    fn unchanged(guard_state: &GuardState) -> Next
+        ensures { result ≡ record { guard_state = guard_state.now; effect = Same } }
     {
         Next {
-            held: *held,
+            guard_state: *guard_state,
             effect: Effect::Same,
         }
     }
@@ -102,17 +102,17 @@ impl Next {
 fn judge<H: Hash32>(
     h: &H,
     may_begin: bool,
-    held: &Held,
+    guard_state: &GuardState,
     abandoned: &[RawBody],
     body: &Body,
 ) -> Result<(), AskFault>
-    ensures ok { OnOk result (IsAllowed (H.digest_of h.now) may_begin (with_abandoned held.now (bodies_in abandoned.now)) body.now) }
-    ensures err { IfErr result (IsFirstAskFault (H.digest_of h.now) may_begin (with_abandoned held.now (bodies_in abandoned.now)) body.now) }
+    ensures ok { OnOk result (IsAllowed (H.digest_of h.now) may_begin (with_abandoned guard_state.now (bodies_in abandoned.now)) body.now) }
+    ensures err { IfErr result (IsFirstAskFault (H.digest_of h.now) may_begin (with_abandoned guard_state.now (bodies_in abandoned.now)) body.now) }
 {
     if !is_well_formed(body) {
         return Err(AskFault::Malformed);
     }
-    match &held.signed {
+    match &guard_state.signed {
         None => {
             if body.t_prev != 0 {
                 return Err(AskFault::NothingRecorded);
@@ -145,7 +145,7 @@ fn judge<H: Hash32>(
             }
         }
     }
-    match &held.asked {
+    match &guard_state.asked {
         None => Ok(()),
         Some(other) => {
             if *other == *body {
@@ -168,21 +168,21 @@ fn judge<H: Hash32>(
 pub fn ask<H: Hash32>(
     h: &H,
     may_begin: bool,
-    held: &Held,
+    guard_state: &GuardState,
     abandoned: &[RawBody],
     body: &Body,
 ) -> Result<Next, AskFault>
-    ensures ok { IfOk result (λ next. Asks (H.digest_of h.now) may_begin (with_abandoned held.now (bodies_in abandoned.now)) body.now (made next (bodies_in abandoned.now) body.now)) }
+    ensures ok { IfOk result (λ next. Asks (H.digest_of h.now) may_begin (with_abandoned guard_state.now (bodies_in abandoned.now)) body.now (made next (bodies_in abandoned.now) body.now)) }
     ensures same { IfOk result (λ next. next.effect ≡ Same) }
-    ensures err { IfErr result (λ fault. IsRefusedAsk (H.digest_of h.now) may_begin (with_abandoned held.now (bodies_in abandoned.now)) body.now fault) }
+    ensures err { IfErr result (λ fault. IsRefusedAsk (H.digest_of h.now) may_begin (with_abandoned guard_state.now (bodies_in abandoned.now)) body.now fault) }
 {
-    if held.settles(abandoned, body) {
-        return Ok(Next::unchanged(held));
+    if guard_state.settles(abandoned, body) {
+        return Ok(Next::unchanged(guard_state));
     }
-    judge(h, may_begin, held, abandoned, body)?;
+    judge(h, may_begin, guard_state, abandoned, body)?;
     Ok(Next {
-        held: Held {
-            signed: held.signed,
+        guard_state: GuardState {
+            signed: guard_state.signed,
             asked: Some(*body),
         },
         effect: Effect::Same,
@@ -198,37 +198,37 @@ pub fn ask<H: Hash32>(
 ///
 /// `NotAsked` if the body is not open. `OtherOpen` if the last signature would be replaced while a body is open, which names it.
 pub fn sign(
-    held: &Held,
+    guard_state: &GuardState,
     abandoned: &[RawBody],
     replaces: bool,
     body: &Body,
     signature: &Signature,
 ) -> Result<Next, SignFault>
-    ensures ok { IfOk result (λ next. Signs (with_abandoned held.now (bodies_in abandoned.now)) replaces body.now signature.now (made next (bodies_in abandoned.now) body.now)) }
+    ensures ok { IfOk result (λ next. Signs (with_abandoned guard_state.now (bodies_in abandoned.now)) replaces body.now signature.now (made next (bodies_in abandoned.now) body.now)) }
     ensures effect { IfOk result (λ next. next.effect ≢ Added) }
-    ensures err { IfErr result (λ fault. IsRefusedSign (with_abandoned held.now (bodies_in abandoned.now)) replaces body.now fault) }
+    ensures err { IfErr result (λ fault. IsRefusedSign (with_abandoned guard_state.now (bodies_in abandoned.now)) replaces body.now fault) }
 {
-    let stored = Held {
+    let stored = GuardState {
         signed: Some(Entry {
             body: *body,
             signature: *signature,
         }),
         asked: None,
     };
-    if replaces && held.is_last(body) {
-        if held.asked.is_some() {
+    if replaces && guard_state.is_last(body) {
+        if guard_state.asked.is_some() {
             return Err(SignFault::OtherOpen);
         }
         return Ok(Next::unchanged(&stored));
     }
-    if held.settles(abandoned, body) {
-        return Ok(Next::unchanged(held));
+    if guard_state.settles(abandoned, body) {
+        return Ok(Next::unchanged(guard_state));
     }
-    if !held.is_open(body) {
+    if !guard_state.is_open(body) {
         return Err(SignFault::NotAsked);
     }
     Ok(Next {
-        held: stored,
+        guard_state: stored,
         effect: Effect::Narrowed,
     })
 }
@@ -240,25 +240,29 @@ pub fn sign(
 /// # Errors
 ///
 /// `MayBeSigned` or `RecordOld` if the epoch before the body is not the last one signed.
-pub fn abandon(held: &Held, abandoned: &[RawBody], body: &Body) -> Result<Next, AbandonFault>
-    ensures ok { IfOk result (λ next. Abandons (with_abandoned held.now (bodies_in abandoned.now)) body.now (made next (bodies_in abandoned.now) body.now)) }
+pub fn abandon(
+    guard_state: &GuardState,
+    abandoned: &[RawBody],
+    body: &Body,
+) -> Result<Next, AbandonFault>
+    ensures ok { IfOk result (λ next. Abandons (with_abandoned guard_state.now (bodies_in abandoned.now)) body.now (made next (bodies_in abandoned.now) body.now)) }
     ensures effect { IfOk result (λ next. next.effect ≢ Narrowed) }
-    ensures err { IfErr result (λ fault. IsRefusedAbandon (with_abandoned held.now (bodies_in abandoned.now)) body.now fault) }
+    ensures err { IfErr result (λ fault. IsRefusedAbandon (with_abandoned guard_state.now (bodies_in abandoned.now)) body.now fault) }
 {
-    if held.settles(abandoned, body) {
-        return Ok(Next::unchanged(held));
+    if guard_state.settles(abandoned, body) {
+        return Ok(Next::unchanged(guard_state));
     }
-    let last = held.last_epoch();
+    let last = guard_state.last_epoch();
     if body.t_prev < last {
         return Err(AbandonFault::MayBeSigned);
     }
     if body.t_prev > last {
         return Err(AbandonFault::RecordOld);
     }
-    let asked = held.closed(body);
+    let asked = guard_state.closed(body);
     Ok(Next {
-        held: Held {
-            signed: held.signed,
+        guard_state: GuardState {
+            signed: guard_state.signed,
             asked,
         },
         effect: Effect::Added,
@@ -270,21 +274,25 @@ pub fn abandon(held: &Held, abandoned: &[RawBody], body: &Body) -> Result<Next, 
 /// # Errors
 ///
 /// `OtherBodies` if the record has anything but this entry. `NoEntry` if no chain has such an entry.
-pub fn adopt(held: &Held, abandoned: &[RawBody], entry: &Entry) -> Result<Next, AdoptFault>
-    ensures ok { IfOk result (λ next. Adopts (with_abandoned held.now (bodies_in abandoned.now)) entry.now (made next (bodies_in abandoned.now) entry.now.body)) }
+pub fn adopt(
+    guard_state: &GuardState,
+    abandoned: &[RawBody],
+    entry: &Entry,
+) -> Result<Next, AdoptFault>
+    ensures ok { IfOk result (λ next. Adopts (with_abandoned guard_state.now (bodies_in abandoned.now)) entry.now (made next (bodies_in abandoned.now) entry.now.body)) }
     ensures same { IfOk result (λ next. next.effect ≡ Same) }
-    ensures err { IfErr result (λ fault. IsRefusedAdopt (with_abandoned held.now (bodies_in abandoned.now)) entry.now fault) }
+    ensures err { IfErr result (λ fault. IsRefusedAdopt (with_abandoned guard_state.now (bodies_in abandoned.now)) entry.now fault) }
 {
-    if held.has_signed(entry) {
-        return Ok(Next::unchanged(held));
+    if guard_state.has_signed(entry) {
+        return Ok(Next::unchanged(guard_state));
     }
-    if !held.is_empty(abandoned) {
+    if !guard_state.is_empty(abandoned) {
         return Err(AdoptFault::OtherBodies);
     }
     if !is_well_formed(&entry.body) {
         return Err(AdoptFault::NoEntry);
     }
-    Ok(Next::unchanged(&Held {
+    Ok(Next::unchanged(&GuardState {
         signed: Some(*entry),
         asked: None,
     }))

@@ -2,7 +2,7 @@
 
 ghost use Rattle.std.specs.Prelude.{◌≡◌, ◌≤◌, ◌↔◌, Some, length, take, true};
 ghost use Rattle.coniks_chain.specs.Entries.{body_from, entry_from};
-ghost use Rattle.coniks_chain.specs.Guard.{Answers, ClosesTo, Has, IsLast, Settles, asked_in, bodies_in, empty, has_same_before, held_in, last_epoch, raw_body, rivals, signed_in, with_abandoned};
+ghost use Rattle.coniks_chain.specs.Guard.{Answers, ClosesTo, Has, IsLast, Settles, asked_in, bodies_in, empty, has_same_before, guard_state_in, last_epoch, raw_body, rivals, signed_in, with_abandoned};
 
 use crate::entry::{BODY_BYTES, Body, ENTRY_BYTES, Entry, Signature, full};
 
@@ -15,7 +15,7 @@ pub struct RawBody {
 
 /// A guard's record without its abandoned bodies, which the caller has in a slice.
 #[derive(Clone, Copy, Debug, PartialEq, Eq)]
-pub struct Held {
+pub struct GuardState {
     /// The last entry signed.
     pub signed: Option<Entry>,
     /// The open body: the key may be used for it, and it is neither signed nor abandoned.
@@ -25,7 +25,7 @@ pub struct Held {
 /// The same as bytes.
 #[repr(C)]
 #[derive(Clone, Copy, Debug, PartialEq, Eq)]
-pub struct RawHeld {
+pub struct RawGuardState {
     /// 0 if the key has signed nothing. `entry` is not read then.
     pub has_entry: u32,
     /// 0 if no body is open. `asked` is not read then.
@@ -116,14 +116,14 @@ fn asked_of(has_asked: u32, bytes: &[u8; BODY_BYTES]) -> Option<Body>
     }
 }
 
-impl RawHeld {
+impl RawGuardState {
     /// Returns the bytes of a record.
-    pub fn of(held: &Held) -> RawHeld
-        ensures { held_in result ≡ held.now }
+    pub fn of(guard_state: &GuardState) -> RawGuardState
+        ensures { guard_state_in result ≡ guard_state.now }
     {
-        let (has_entry, entry) = signed_parts(&held.signed);
-        let (has_asked, asked) = asked_parts(&held.asked);
-        RawHeld {
+        let (has_entry, entry) = signed_parts(&guard_state.signed);
+        let (has_asked, asked) = asked_parts(&guard_state.asked);
+        RawGuardState {
             has_entry,
             has_asked,
             entry,
@@ -132,10 +132,10 @@ impl RawHeld {
     }
 
     /// Returns the record that has these bytes.
-    pub fn held(&self) -> Held
-        ensures { result ≡ held_in self.now }
+    pub fn guard_state(&self) -> GuardState
+        ensures { result ≡ guard_state_in self.now }
     {
-        Held {
+        GuardState {
             signed: signed_of(self.has_entry, &self.entry),
             asked: asked_of(self.has_asked, &self.asked),
         }
@@ -183,20 +183,20 @@ fn has_same_before(body: &Body, other: &Body) -> bool
 pub fn keep_rivals(bodies: &mut [RawBody], body: &Body) -> usize
     ensures within { result ≤ length bodies.old }
     ensures size { length bodies.new ≡ length bodies.old }
-    ensures kept { bodies_in (take result bodies.new) ≡ rivals body.now (bodies_in bodies.old) }
+    ensures retained { bodies_in (take result bodies.new) ≡ rivals body.now (bodies_in bodies.old) }
 {
-    let mut kept = 0;
+    let mut retained = 0;
     for place in 0..bodies.len() {
         let raw = bodies[place];
         if has_same_before(body, &raw.body()) {
-            bodies[kept] = raw;
-            kept += 1;
+            bodies[retained] = raw;
+            retained += 1;
         }
     }
-    kept
+    retained
 }
 
-impl Held {
+impl GuardState {
     /// Returns whether the last entry signed has a body.
     pub(crate) fn is_last(&self, body: &Body) -> bool
         ensures { result ≡ true ↔ IsLast self.now.signed body.now }
@@ -265,13 +265,13 @@ impl Held {
 /// Returns what a stored record says of a body.
 ///
 /// A guard returns the signature that this returns, never the one that its key has just made. It asks after the record is durable.
-pub fn answer_of(held: &Held, abandoned: &[RawBody], body: &Body) -> Answer
-    ensures { Answers (with_abandoned held.now (bodies_in abandoned.now)) body.now result }
+pub fn answer_of(guard_state: &GuardState, abandoned: &[RawBody], body: &Body) -> Answer
+    ensures { Answers (with_abandoned guard_state.now (bodies_in abandoned.now)) body.now result }
 {
     if has(abandoned, body) {
         return Answer::Abandoned;
     }
-    match &held.signed {
+    match &guard_state.signed {
         None => Answer::Unsettled,
         Some(last) => {
             if last.body == *body {

@@ -43,7 +43,7 @@ pub mod monitor;
 pub mod seen;
 pub mod signer;
 
-pub use auditor::{AuditFault, Auditor, AuditorState, audit};
+pub use auditor::{AuditFault, Auditor, AuditorState, audit, auditor_after};
 pub use entry::{BODY_BYTES, Body, ENTRY_BYTES, Entry, Signature, link};
 pub use evidence::{Evidence, EvidenceKind, convicts, find_evidence, is_well_formed};
 pub use history::extract_history;

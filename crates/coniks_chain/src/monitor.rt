@@ -1,7 +1,7 @@
 //! A client's monitor of one name.
 
 ghost use Rattle.std.specs.Prelude.{◌≡◌, Some, None, OnOk, OnErr, IfOk, IfErr, length};
-ghost use Rattle.coniks_proof.specs.Proofs.{answer_of, said};
+ghost use Rattle.coniks_proof.specs.Proofs.{answer_of, stated};
 ghost use Rattle.coniks_chain.specs.Chain.{before_at, auditor_after};
 ghost use Rattle.coniks_chain.specs.Seen.{key_shown, seen_of};
 ghost use Rattle.coniks_chain.specs.Watch.{IsFirstStepFault, IsFirstUnsound, IsSoundRun, IsSoundStep, Watched, entries_watched, tally_of};
@@ -42,7 +42,7 @@ pub struct Wanted<'a> {
 
 /// Compares an answer with the expected key.
 fn seen(expected: &Option<&[u8]>, answer: &Answer) -> Seen
-    ensures { result ≡ seen_of (key_shown expected.now) (said answer.now) }
+    ensures { result ≡ seen_of (key_shown expected.now) (stated answer.now) }
 {
     match (expected, answer) {
         (None, Answer::Absent) => Seen::Same,
@@ -80,7 +80,7 @@ impl<H: Hash32 + Drop> Auditor<H> {
         ensures ok { OnOk result (IsSoundStep (H.digest_of self.old.0) (V.verdict_of verify.now)
             self.old.1 wanted.now.name.now wanted.now.index.0 entry.now proof.now (answer_of proof.now.end)) }
         ensures seen { IfOk result (λ seen. seen ≡ seen_of (key_shown wanted.now.expected) (answer_of proof.now.end)) }
-        ensures kept { OnOk result (self.new ≡ (self.old.0, Some (auditor_after (H.digest_of self.old.0) entry.now))) }
+        ensures retained { OnOk result (self.new ≡ (self.old.0, Some (auditor_after (H.digest_of self.old.0) entry.now))) }
         ensures err { IfErr result (IsFirstStepFault (H.digest_of self.old.0) (V.verdict_of verify.now)
             self.old.1 wanted.now.name.now wanted.now.index.0 entry.now proof.now) }
         ensures unchanged { OnErr result (self.new ≡ self.old) }
@@ -172,7 +172,7 @@ impl<H: Hash32 + Drop> Monitor<H> {
         ensures ok { OnOk result (IsSoundStep (H.digest_of self.old.hasher) (V.verdict_of verify.now)
             self.old.before self.old.name self.old.index entry.now proof.now (answer_of proof.now.end)) }
         ensures seen { IfOk result (λ seen. seen ≡ seen_of self.old.expected (answer_of proof.now.end)) }
-        ensures kept { OnOk result (self.new ≡ record self.old { before = Some (auditor_after (H.digest_of self.old.hasher) entry.now) }) }
+        ensures retained { OnOk result (self.new ≡ record self.old { before = Some (auditor_after (H.digest_of self.old.hasher) entry.now) }) }
         ensures err { IfErr result (IsFirstStepFault (H.digest_of self.old.hasher)
             (V.verdict_of verify.now) self.old.before self.old.name self.old.index entry.now proof.now) }
         ensures unchanged { OnErr result (self.new ≡ self.old) }
@@ -201,7 +201,7 @@ impl<H: Hash32 + Drop> Monitor<H> {
     ) -> Result<Tally, (usize, MonitorFault)>
         ensures ok { OnOk result (IsSoundRun (H.digest_of self.old.hasher) (V.verdict_of verify.now) self.old.before self.old.name self.old.index items.now) }
         ensures tally { IfOk result (λ tally. tally ≡ tally_of self.old.expected items.now) }
-        ensures kept { OnOk result (self.new ≡ record
+        ensures retained { OnOk result (self.new ≡ record
             self.old { before = before_at (H.digest_of self.old.hasher) self.old.before (entries_watched items.now) (length items.now) }) }
         ensures err { IfErr result (λ refused. IsFirstUnsound (H.digest_of self.old.hasher)
             (V.verdict_of verify.now) self.old.before self.old.name self.old.index items.now refused.0 refused.1) }

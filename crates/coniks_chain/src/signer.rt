@@ -52,8 +52,8 @@ pub trait Sign: Verify {
 
         // The body is the one that has these bytes.
         ensures last { IfSome result (λ signature. (b : Body) → IsBody b → body_bytes b ≡ body.now → last_of self.new ≡ Some (signed b signature)) }
-        ensures last_kept { IfNone result (last_of self.new ≡ last_of self.old) }
-        ensures verdicts_kept { (bytes signature : Octets) → Self.verdict_of self.new bytes signature ≡ Self.verdict_of self.old bytes signature };
+        ensures last_retained { IfNone result (last_of self.new ≡ last_of self.old) }
+        ensures verdicts_retained { (bytes signature : Octets) → Self.verdict_of self.new bytes signature ≡ Self.verdict_of self.old bytes signature };
 
     /// Returns the number of signatures that it returned.
     fn made(&self) -> u64
@@ -79,7 +79,7 @@ pub struct Signings {
 }
 
 impl Signings {
-    /// Returns the counts of a signer that has not been asked.
+    /// Returns the counts of a signer that has not been called.
     pub fn none() -> Signings
         ensures { result ≡ record { made = 0; refused = 0; last = None } }
     {
@@ -130,7 +130,7 @@ impl Signings {
 /// ```
 ///
 /// The directory's `install` then returns `SignerRefused` with the update. Installed again at the same epoch, the update
-/// asks for the same body, and is installed with the signature that has arrived:
+/// requests the same body, and is installed with the signature that has arrived:
 ///
 /// ```rust
 /// let (_, update) = refused.err().expect(rt, "a refusal");
@@ -149,7 +149,7 @@ pub trait SignatureSource: Verify {
 
     /// Returns a signature for the bytes of a body, or `None` if there is none.
     ///
-    /// `None` says that the body was not signed, and will not be unless it is asked for again: the caller may install
+    /// `None` says that the body was not signed, and will not be unless it is requested again: the caller may install
     /// another update. If the body is signed all the same, two different bodies follow one entry, and whoever has both
     /// can convict the signer (`evidence::convicts`). So a caller whose signatures arrive later installs only the same
     /// update again, or signs through a process that refuses the first body for ever.
@@ -157,7 +157,7 @@ pub trait SignatureSource: Verify {
     /// The signature can be a wrong one. No verification result changes.
     fn signature(&mut self, body: &[u8; BODY_BYTES]) -> Option<Signature>
         ensures gives { gives self.old body.now result self.new }
-        ensures verdicts_kept { (bytes signature : Octets) → Self.verdict_of self.new bytes signature ≡ Self.verdict_of self.old bytes signature };
+        ensures verdicts_retained { (bytes signature : Octets) → Self.verdict_of self.new bytes signature ≡ Self.verdict_of self.old bytes signature };
 }
 
 /// A signer over a source of signatures.
@@ -175,7 +175,7 @@ pub struct Signer<S> {
 fn judged<S: SignatureSource>(source: &mut S, body: &[u8; BODY_BYTES]) -> Option<Signature>
     ensures given { (given : Option Signature) × S.gives source.old body.now given source.new × (result ≡ verified (S.verdict_of source.new body.now) given) }
     ensures verdict { IfSome result (λ signature. S.verdict_of source.new body.now signature.0 ≡ true) }
-    ensures verdicts_kept { (bytes signature : Octets) → S.verdict_of source.new bytes signature ≡ S.verdict_of source.old bytes signature }
+    ensures verdicts_retained { (bytes signature : Octets) → S.verdict_of source.new bytes signature ≡ S.verdict_of source.old bytes signature }
 {
     let signature = source.signature(body)?;
     if source.verdict(body, &signature) {
@@ -186,7 +186,7 @@ fn judged<S: SignatureSource>(source: &mut S, body: &[u8; BODY_BYTES]) -> Option
 }
 
 impl<S> Signer<S> {
-    /// Returns a signer over a source, which has not been asked.
+    /// Returns a signer over a source, which has not been called.
     pub fn new(source: S) -> Signer<S>
         ensures source { result.source ≡ source }
         ensures signings { result.signings ≡ record { made = 0; refused = 0; last = None } }
