@@ -114,10 +114,10 @@ early from key (c ∷ changes) epoch le order =
 
 -- a mark of the next change, by what is known of it
 abbrev pub narrowed_by : Bool → Bool → Bool → Change → ℕ → Change
-narrowed_by told old new c epoch = if told then c else (if old then record c { last_old = epoch } else (if new then record c { first_new = epoch } else c))
+narrowed_by reported old new c epoch = if reported then c else (if old then record c { last_old = epoch } else (if new then record c { first_new = epoch } else c))
 
-narrow-order : (told old new : Bool) (c : Change) (changes : List Change) (from epoch : ℕ) → (told ≡ false → c.last_old < epoch) → epoch < c.first_new
-    → AreInOrder from (c ∷ changes) → AreInOrder from (narrowed_by told old new c epoch ∷ changes)
+narrow-order : (reported old new : Bool) (c : Change) (changes : List Change) (from epoch : ℕ) → (reported ≡ false → c.last_old < epoch) → epoch < c.first_new
+    → AreInOrder from (c ∷ changes) → AreInOrder from (narrowed_by reported old new c epoch ∷ changes)
 narrow-order true old new c changes from epoch beyond less order = order
 narrow-order false true new c changes from epoch beyond less order =
     let first = order.0 in
@@ -126,8 +126,8 @@ narrow-order false true new c changes from epoch beyond less order =
 narrow-order false false true c changes from epoch beyond less order = (order.0, beyond refl, order-from c.first_new epoch changes (omega arith) order.2)
 narrow-order false false false c changes from epoch beyond less order = order
 
-narrow-keeps : (told old new : Bool) (c : Change) (changes : List Change) (key : Key) (epoch d : ℕ) → (told ≡ false → c.last_old < epoch) → epoch < c.first_new
-    → c.last_old < c.first_new → Keeps key (c ∷ changes) key (narrowed_by told old new c epoch ∷ changes) d
+narrow-keeps : (reported old new : Bool) (c : Change) (changes : List Change) (key : Key) (epoch d : ℕ) → (reported ≡ false → c.last_old < epoch) → epoch < c.first_new
+    → c.last_old < c.first_new → Keeps key (c ∷ changes) key (narrowed_by reported old new c epoch ∷ changes) d
 narrow-keeps true old new c changes key epoch d beyond less apart decided = (decided, refl)
 narrow-keeps false true new c changes key epoch d beyond less apart decided =
     let after = beyond refl in
@@ -186,10 +186,10 @@ marked-keeps from key (c ∷ changes) epoch answer d order =
     (cases_lt epoch c.first_new)
 
 -- an accepted answer is what is expected from then on, and nothing is open there
-narrow-decides : (told old new later : Bool) (from : ℕ) (key : Key) (c : Change) (changes : List Change) (epoch : ℕ) (answer : Key)
-    → (told ≡ true → (epoch ≤ c.last_old) × (later ≡ false)) → (told ≡ false → c.last_old < epoch) → (old ≡ true → answer ≡ key) → (new ≡ true → answer ≡ wanted c.key.now)
+narrow-decides : (reported old new later : Bool) (from : ℕ) (key : Key) (c : Change) (changes : List Change) (epoch : ℕ) (answer : Key)
+    → (reported ≡ true → (epoch ≤ c.last_old) × (later ≡ false)) → (reported ≡ false → c.last_old < epoch) → (old ≡ true → answer ≡ key) → (new ≡ true → answer ≡ wanted c.key.now)
     → epoch < c.first_new → AreInOrder from (c ∷ changes) → (old || (later && new)) ≡ true
-    → IsDecided (narrowed_by told old new c epoch ∷ changes) epoch × (expected key (narrowed_by told old new c epoch ∷ changes) epoch ≡ answer)
+    → IsDecided (narrowed_by reported old new c epoch ∷ changes) epoch × (expected key (narrowed_by reported old new c epoch ∷ changes) epoch ≡ answer)
 narrow-decides true true new later from key c changes epoch answer yet beyond is_old is_new less order accepted =
     (inl (yet refl).0, yes epoch c.first_new key (expected (wanted c.key.now) changes epoch) less ∙ sym (is_old refl))
 narrow-decides true false new true from key c changes epoch answer yet beyond is_old is_new less order accepted = let none = (yet refl).1 in absurd (cc)
@@ -210,8 +210,8 @@ accepted-by true key c changes epoch answer e = ap (λ (b : Bool). may_show (if 
 accepted-by false key c changes epoch answer e = ap (λ (b : Bool). may_show (if b then key else expected (wanted c.key.now) changes epoch)
     (slice_get (c ∷ changes) (if b then 0 else suc (begun changes epoch))) epoch answer) e
 
-told-of : (epoch old : ℕ) → nat_le epoch old ≡ true → (epoch ≤ old) × (nat_lt old epoch ≡ false)
-told-of epoch old e = let le : epoch ≤ old = leb-true epoch old e in (le, le-ltb old epoch le)
+reported-of : (epoch old : ℕ) → nat_le epoch old ≡ true → (epoch ≤ old) × (nat_lt old epoch ≡ false)
+reported-of epoch old e = let le : epoch ≤ old = leb-true epoch old e in (le, le-ltb old epoch le)
 
 pub marked-decides : (from : ℕ) (key : Key) (changes : List Change) (epoch : ℕ) (answer : Key) → AreInOrder from changes → is_accepted key changes epoch answer ≡ true
     → IsDecided (marked key changes epoch answer) epoch × (expected key (marked key changes epoch answer) epoch ≡ answer)
@@ -222,7 +222,7 @@ marked-decides from key (c ∷ changes) epoch answer order accepted =
     ⊎_elim
     (λ (less : epoch < c.first_new). subst (λ (l : List Change). IsDecided l epoch × (expected key l epoch ≡ answer)) (sym (yes epoch c.first_new here there less))
     (narrow-decides (nat_le epoch c.last_old) (same_key answer key) (same_key answer (wanted c.key.now)) (nat_lt c.last_old epoch) from key c changes epoch answer
-    (told-of epoch c.last_old) (beyond_of epoch c.last_old) (same-is answer key) (same-is answer (wanted c.key.now)) less order
+    (reported-of epoch c.last_old) (beyond_of epoch c.last_old) (same-is answer key) (same-is answer (wanted c.key.now)) less order
     (sym (accepted-by true key c changes epoch answer (lt-ltb epoch c.first_new less)) ∙ accepted)))
     (λ (le : c.first_new ≤ epoch). subst (λ (l : List Change). IsDecided l epoch × (expected key l epoch ≡ answer)) (sym (no epoch c.first_new here there le))
     (let rest = marked-decides c.first_new (wanted c.key.now) changes epoch answer order.2 (sym (accepted-by false key c changes epoch answer (le-ltb epoch c.first_new le)) ∙ accepted) in

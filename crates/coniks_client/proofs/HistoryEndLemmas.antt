@@ -81,7 +81,7 @@ ends (Here n k o) (Here m l p) r s bytes kind a b =
 pub end-same : (bytes : List ℕ) (kind : ℕ) (e f : End) (r s : List ℕ) → IsEndOf bytes kind e r → IsEndOf bytes kind f s → (e ≡ f) × (r ≡ s)
 end-same bytes kind e f r s a b = ends e f r s bytes kind a b
 
--- bytes that begin with the leaf of another index, and with that of the asked one, are as long
+-- bytes that begin with the leaf of another index, and with that of the requested one, are as long
 drop-32 : (o xs bytes : List ℕ) → length o ≡ 32 → bytes ≡ o ++ xs → drop 32 bytes ≡ xs
 drop-32 o xs bytes size is = ap (drop 32) is ∙ ap (λ (n : ℕ). drop n (o ++ xs)) (sym size) ∙ drop-append_seam o xs
 

@@ -70,29 +70,29 @@ accepts from key (c ∷ changes) (s ∷ switches) epoch order made =
     (cases_lt epoch c.first_new)
 
 -- a mark of the next change keeps when it was made, and its key
-narrow-made : (told old new : Bool) (c : Change) (s epoch : ℕ) → (old ≡ true → epoch < s) → (old ≡ false → new ≡ true → s ≤ epoch) → c.last_old < s → s ≤ c.first_new
-    → ((narrowed_by told old new c epoch).last_old < s) × (s ≤ (narrowed_by told old new c epoch).first_new) × ((narrowed_by told old new c epoch).key ≡ c.key)
+narrow-made : (reported old new : Bool) (c : Change) (s epoch : ℕ) → (old ≡ true → epoch < s) → (old ≡ false → new ≡ true → s ≤ epoch) → c.last_old < s → s ≤ c.first_new
+    → ((narrowed_by reported old new c epoch).last_old < s) × (s ≤ (narrowed_by reported old new c epoch).first_new) × ((narrowed_by reported old new c epoch).key ≡ c.key)
 narrow-made true old new c s epoch is_old is_new low high = (low, high, refl)
 narrow-made false true new c s epoch is_old is_new low high = (is_old refl, high, refl)
 narrow-made false false true c s epoch is_old is_new low high = (low, is_new refl refl, refl)
 narrow-made false false false c s epoch is_old is_new low high = (low, high, refl)
 
 -- what marks keep, as one fact
-pub record IsKept (key : Key) (changes new : List Change) (switches : List ℕ) : Type 0 where
+pub record IsStored (key : Key) (changes new : List Change) (switches : List ℕ) : Type 0 where
   other : AreOther key new
   made : AreMade new switches
   shown : (d : ℕ) → shown_by key new switches d ≡ shown_by key changes switches d
 
-one-kept : (key : Key) (c d : Change) (changes : List Change) (s : ℕ) (switches : List ℕ) → d.last_old < s → s ≤ d.first_new → d.key ≡ c.key → AreOther key (c ∷ changes) → AreMade changes switches
-    → IsKept key (c ∷ changes) (d ∷ changes) (s ∷ switches)
-one-kept key c d changes s switches low high same other made = record {
+one-stored : (key : Key) (c d : Change) (changes : List Change) (s : ℕ) (switches : List ℕ) → d.last_old < s → s ≤ d.first_new → d.key ≡ c.key → AreOther key (c ∷ changes) → AreMade changes switches
+    → IsStored key (c ∷ changes) (d ∷ changes) (s ∷ switches)
+one-stored key c d changes s switches low high same other made = record {
   other = (λ (e : key ≡ wanted d.key.now). other.0 (e ∙ ap (λ (k : Bor (List ℕ)). wanted k.now) same), subst (λ (k : Bor (List ℕ)). AreOther (wanted k.now) changes) (sym same) other.1);
   made = (low, high, made);
   shown = λ n. ap (λ (k : Bor (List ℕ)). if nat_lt n s then key else shown_by (wanted k.now) changes switches n) same;
 }
 
 behind : (key : Key) (c : Change) (changes new : List Change) (s : ℕ) (switches : List ℕ) → c.last_old < s → s ≤ c.first_new → AreOther key (c ∷ changes)
-    → IsKept (wanted c.key.now) changes new switches → IsKept key (c ∷ changes) (c ∷ new) (s ∷ switches)
+    → IsStored (wanted c.key.now) changes new switches → IsStored key (c ∷ changes) (c ∷ new) (s ∷ switches)
 behind key c changes new s switches low high other rest = record {
   other = (other.0, rest.other);
   made = (low, high, rest.made);
@@ -100,7 +100,7 @@ behind key c changes new s switches low high other rest = record {
 }
 
 marks : (from : ℕ) (key : Key) (changes : List Change) (switches : List ℕ) (epoch : ℕ) → AreInOrder from changes → AreOther key changes → AreMade changes switches
-    → IsKept key changes (marked key changes epoch (shown_by key changes switches epoch)) switches
+    → IsStored key changes (marked key changes epoch (shown_by key changes switches epoch)) switches
 marks from key [] switches epoch order other made = record { other = tt; made = made; shown = λ n. refl }
 marks from key (c ∷ changes) [] epoch order other made = absurd made
 marks from key (c ∷ changes) (s ∷ switches) epoch order other made =
@@ -122,22 +122,22 @@ marks from key (c ∷ changes) (s ∷ switches) epoch order other made =
     (λ (new : (s ≤ epoch) × (answer ≡ wanted c.key.now)). new.0)
     either in
     let narrow = narrow-made (nat_le epoch c.last_old) (same_key answer key) (same_key answer (wanted c.key.now)) c s epoch is_old is_new low high in
-    subst (λ (l : List Change). IsKept key (c ∷ changes) l (s ∷ switches)) (sym (yes epoch c.first_new here there less))
-    (one-kept key c (narrowed key c epoch answer) changes s switches narrow.0 narrow.1 narrow.2 other made.2))
+    subst (λ (l : List Change). IsStored key (c ∷ changes) l (s ∷ switches)) (sym (yes epoch c.first_new here there less))
+    (one-stored key c (narrowed key c epoch answer) changes s switches narrow.0 narrow.1 narrow.2 other made.2))
     (λ (le : c.first_new ≤ epoch).
     let is : answer ≡ rest = no epoch s key rest (omega arith) in
-    subst (λ (l : List Change). IsKept key (c ∷ changes) l (s ∷ switches)) (sym (no epoch c.first_new here there le))
+    subst (λ (l : List Change). IsStored key (c ∷ changes) l (s ∷ switches)) (sym (no epoch c.first_new here there le))
     (behind key c changes (marked (wanted c.key.now) changes epoch answer) s switches low high other
-    (subst (λ (a : Key). IsKept (wanted c.key.now) changes (marked (wanted c.key.now) changes epoch a) switches) (sym is)
+    (subst (λ (a : Key). IsStored (wanted c.key.now) changes (marked (wanted c.key.now) changes epoch a) switches) (sym is)
     (marks c.first_new (wanted c.key.now) changes switches epoch order.2 other.1 made.2))))
     (cases_lt epoch c.first_new)
 
 pub honest : HonestLaw
 honest key changes switches epoch is =
-    let kept = marks 0 key changes switches epoch is.order is.other is.made in (
+    let stored = marks 0 key changes switches epoch is.order is.other is.made in (
       accepts 0 key changes switches epoch is.order is.made,
-      record { order = marked-order 0 key changes epoch (shown_by key changes switches epoch) is.order; other = kept.other; made = kept.made },
-      kept.shown,
+      record { order = marked-order 0 key changes epoch (shown_by key changes switches epoch) is.order; other = stored.other; made = stored.made },
+      stored.shown,
     )
 
 -- a change more

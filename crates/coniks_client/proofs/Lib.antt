@@ -22,5 +22,5 @@ mod RunLemmas
 mod ScanLemmas
 mod SiblingLemmas
 mod StepLemmas
-mod ToldLemmas
+mod ReportedLemmas
 mod WatchLemmas

@@ -14,31 +14,31 @@ use Rattle.coniks_chain.specs.declared.entry.Entry.{Entry}
 use Rattle.coniks_chain.specs.declared.auditor.AuditFault.TheVariants.{NotLater, PreviousEpoch, PreviousLink}
 use Rattle.coniks_chain.proofs.Lemmas.{row, decide_entry, decide_list}
 use Rattle.coniks_client.specs.Changes.{expected}
-use Rattle.coniks_client.specs.Kept.{IsChain, entries_in, entry_in, epoch_in, verified_before}
+use Rattle.coniks_client.specs.StoredEntry.{IsChain, entries_in, entry_in, epoch_in, verified_before}
 use Rattle.coniks_client.specs.Owner.{Fork, IsOwner, IsShown, OwnerLaw, OwnerLawOfFunctions, Scheme, TwoAnswers, TwoIndices}
-use Rattle.coniks_client.specs.declared.kept.Kept.{Kept}
+use Rattle.coniks_client.specs.declared.stored.StoredEntry.{StoredEntry}
 
--- the kept entry at a place
-kept_at : (kept : List Kept) (k : ℕ) (e : Entry) (found : Option Kept) → slice_get kept k ≡ found → option_map entry_in found ≡ Some e
-    → (mine : Kept) × (slice_get kept k ≡ Some mine) × (entry_in mine ≡ e)
-kept_at kept k e None at is = absurd (cc)
-kept_at kept k e (Some mine) at is = (mine, at, same_Some (entry_in mine) e is)
+-- the stored entry at a place
+stored_at : (stored : List StoredEntry) (k : ℕ) (e : Entry) (found : Option StoredEntry) → slice_get stored k ≡ found → option_map entry_in found ≡ Some e
+    → (mine : StoredEntry) × (slice_get stored k ≡ Some mine) × (entry_in mine ≡ e)
+stored_at stored k e None at is = absurd (cc)
+stored_at stored k e (Some mine) at is = (mine, at, same_Some (entry_in mine) e is)
 
-pub entry_at : (kept : List Kept) (k : ℕ) (mine : Kept) → slice_get kept k ≡ Some mine → slice_get (entries_in kept) k ≡ Some (entry_in mine)
-entry_at kept k mine at = slice_get-map entry_in kept k ∙ ap (option_map entry_in) at
+pub entry_at : (stored : List StoredEntry) (k : ℕ) (mine : StoredEntry) → slice_get stored k ≡ Some mine → slice_get (entries_in stored) k ≡ Some (entry_in mine)
+entry_at stored k mine at = slice_get-map entry_in stored k ∙ ap (option_map entry_in) at
 
-pub kept_of : (kept : List Kept) (k : ℕ) (e : Entry) → slice_get (entries_in kept) k ≡ Some e → (mine : Kept) × (slice_get kept k ≡ Some mine) × (entry_in mine ≡ e)
-kept_of kept k e at = kept_at kept k e (slice_get kept k) refl (sym (slice_get-map entry_in kept k) ∙ at)
+pub stored_of : (stored : List StoredEntry) (k : ℕ) (e : Entry) → slice_get (entries_in stored) k ≡ Some e → (mine : StoredEntry) × (slice_get stored k ≡ Some mine) × (entry_in mine ≡ e)
+stored_of stored k e at = stored_at stored k e (slice_get stored k) refl (sym (slice_get-map entry_in stored k) ∙ at)
 
 module _ (hash : List ℕ → List ℕ) where
   -- each entry follows the one before it
   abbrev pub IsLinked : List Entry → Type 0
   IsLinked es = (k : ℕ) (d e : Entry) → slice_get es k ≡ Some d → slice_get es (suc k) ≡ Some e → Follows verified_before (Some (auditor_after hash d)) e
 
-  pub linked_of : (kept : List Kept) → IsChain hash kept → IsLinked (entries_in kept)
-  linked_of kept chain = λ k d e at_d at_e.
-      let before = kept_of kept k d at_d in
-      let mine = kept_of kept (suc k) e at_e in
+  pub linked_of : (stored : List StoredEntry) → IsChain hash stored → IsLinked (entries_in stored)
+  linked_of stored chain = λ k d e at_d at_e.
+      let before = stored_of stored k d at_d in
+      let mine = stored_of stored (suc k) e at_e in
       let follows = chain k before.0 mine.0 before.1 mine.1 in
       subst (λ (x : Entry). Follows verified_before (Some (auditor_after hash d)) x) mine.2
       (subst (λ (x : Entry). Follows verified_before (Some (auditor_after hash x)) (entry_in mine.0)) before.2 follows)
@@ -87,7 +87,7 @@ module _ (hash : List ℕ → List ℕ) where
         let is : g ≡ f = same_Some g f (sym stand.right ∙ ap (slice_get ys) (sym at) ∙ at_f) in
         inl (i, stand.left ∙ ap (λ (x : Entry). Some x) (same ∙ is))
 
-    -- an entry of the second list that is above the asked one is later
+    -- an entry of the second list that is above the requested one is later
     later : (j : ℕ) (g : Entry) → slice_get ys j ≡ Some g → q < j → f.body.t < g.body.t
     later j g at less = increasing ys chain_y q j f g at_f at less
 
@@ -195,7 +195,7 @@ one_entry hash scheme entry name a b of_a of_b = ⊎_elim
     (decide_list decide_ℕ of_b.index of_a.index)
 
 owner_of_expected : (hash : List ℕ → List ℕ) (scheme : Scheme) (name : List ℕ) (expected : ℕ → Option (List ℕ)) (first last : ℕ)
-    (alice bob : List Kept) (head : List ℕ) (place : ℕ) (his : Kept) (answer : Option (List ℕ))
+    (alice bob : List StoredEntry) (head : List ℕ) (place : ℕ) (his : StoredEntry) (answer : Option (List ℕ))
     → IsOwner hash scheme name expected first last alice → EndsWith hash (entries_in alice) head
     → IsChain hash bob → EndsWith hash (entries_in bob) head
     → slice_get bob place ≡ Some his → first ≤ epoch_in his → epoch_in his ≤ last
@@ -207,7 +207,7 @@ owner_of_expected hash scheme name expected first last alice bob head place his 
     let at_f = entry_at bob place his at in
     let within = slice_get_within ys place (entry_in his) at_f in
     let low : (e : Entry) → slice_get xs 0 ≡ Some e → (e.body.t ≤ epoch_in his) ⊎ (e.body.t_prev < epoch_in his) = λ e at_e.
-    let mine = kept_of alice 0 e at_e in
+    let mine = stored_of alice 0 e at_e in
     let begins = owns.begins mine.0 mine.1 in
     let epoch : epoch_in mine.0 ≡ e.body.t = ap (λ (x : Entry). x.body.t) mine.2 in
     inl (omega arith) in
@@ -215,7 +215,7 @@ owner_of_expected hash scheme name expected first last alice bob head place his 
     (length xs - 1) (length ys - 1) end_a.last end_b.last (ends hash xs ys head end_a end_b) (end_a.linked ∙ sym end_b.linked) (omega arith) in
     ⊎_elim
     (λ (found : (p : ℕ) × (slice_get xs p ≡ Some (entry_in his))).
-    let mine = kept_of alice found.0 (entry_in his) found.1 in
+    let mine = stored_of alice found.0 (entry_in his) found.1 in
     let epoch : epoch_in mine.0 ≡ epoch_in his = ap (λ (x : Entry). x.body.t) mine.2 in
     let same = owns.same found.0 mine.0 mine.1 (omega arith) (omega arith) in
     let backed = owns.backed found.0 mine.0 mine.1 same in

@@ -6,22 +6,22 @@ use Rattle.std.proofs.lemmas.Slice.Eq.{bytes_eq-Decides}
 use Rattle.std.proofs.lemmas.Option.{same_Some}
 use Rattle.coniks_chain.specs.declared.entry.Entry.{Entry}
 use Rattle.coniks_client.specs.Changes.{AreInOrder, IsDecided, Keeps, expected, is_accepted, marked, wanted}
-use Rattle.coniks_client.specs.Kept.{entry_in, epoch_in}
+use Rattle.coniks_client.specs.StoredEntry.{entry_in, epoch_in}
 use Rattle.coniks_client.specs.Owner.{IsSame, IsShown, IsWatched, IsWatcher, Scheme}
 use Rattle.coniks_client.specs.Steps.{Marks, SaysSame, given_changes, given_number, is_watched, with_one}
 use Rattle.coniks_client.specs.Watching.{other_number, seen_number}
 use Rattle.coniks_client.specs.declared.changes.Change.{Change}
-use Rattle.coniks_client.specs.declared.kept.Kept.{Kept}
+use Rattle.coniks_client.specs.declared.stored.StoredEntry.{StoredEntry}
 use Rattle.coniks_client.specs.declared.watching.Watch.{Watch}
 use Rattle.coniks_client.proofs.ChangeLemmas.{marked-decides, marked-keeps, marked-order}
 use Rattle.coniks_client.proofs.StepLemmas.{backed-push, was_at, which}
 use Rattle.coniks_client.proofs.PartLemmas.{drop-backed, of_drop, of_take, take-owner}
 
--- changes that keep what is expected of each kept epoch keep the watch
-pub watched-keeps : (hash : List ℕ → List ℕ) (scheme : Scheme) (name : List ℕ) (key key' : Option (List ℕ)) (changes changes' : List Change) (kept : List Kept)
-    → ((k : ℕ) (mine : Kept) → slice_get kept k ≡ Some mine → Keeps key changes key' changes' (epoch_in mine)) → AreInOrder 0 changes'
-    → IsWatched hash scheme name key changes kept → IsWatched hash scheme name key' changes' kept
-watched-keeps hash scheme name key key' changes changes' kept keeps order watched = record {
+-- changes that keep what is expected of each stored epoch keep the watch
+pub watched-keeps : (hash : List ℕ → List ℕ) (scheme : Scheme) (name : List ℕ) (key key' : Option (List ℕ)) (changes changes' : List Change) (stored : List StoredEntry)
+    → ((k : ℕ) (mine : StoredEntry) → slice_get stored k ≡ Some mine → Keeps key changes key' changes' (epoch_in mine)) → AreInOrder 0 changes'
+    → IsWatched hash scheme name key changes stored → IsWatched hash scheme name key' changes' stored
+watched-keeps hash scheme name key key' changes changes' stored keeps order watched = record {
   order = order;
   decided = λ k mine at same. let all = keeps k mine at (watched.decided k mine at same) in all.0;
   backed = λ k mine at same.
@@ -45,7 +45,7 @@ accepted-of : (b : Bool) (answer : Option (List ℕ)) → (if b then 1 else othe
 accepted-of true answer e = refl
 accepted-of false answer e = absurd (other-not answer e)
 
-module _ (hash : List ℕ → List ℕ) (scheme : Scheme) (old new : List Kept) (place : ℕ) (was : Kept) (at : slice_get old place ≡ Some was)
+module _ (hash : List ℕ → List ℕ) (scheme : Scheme) (old new : List StoredEntry) (place : ℕ) (was : StoredEntry) (at : slice_get old place ≡ Some was)
     (watch : Watch) (changes : List Change) (answer : Option (List ℕ)) where
   -- an epoch of the watched name was marked
   marked-watched : Marks old new place (Some (seen_number watch changes (epoch_in was) answer)) → IsShown hash scheme (entry_in was) watch.name.now answer
@@ -57,19 +57,19 @@ module _ (hash : List ℕ → List ℕ) (scheme : Scheme) (old new : List Kept) 
       let then_marked = marked key changes (epoch_in was) answer in
       let decides : IsSame (seen_number watch changes (epoch_in was) answer) → IsDecided then_marked (epoch_in was) × (expected key then_marked (epoch_in was) ≡ answer) =
       λ says. marked-decides 0 key changes (epoch_in was) answer watched.order (accepted-of (is_accepted key changes (epoch_in was) answer) answer says) in
-      let all : (k : ℕ) (x : Kept) → slice_get new k ≡ Some x → IsSame x.seen → IsDecided then_marked (epoch_in x) × IsShown hash scheme (entry_in x) watch.name.now (expected key then_marked (epoch_in x)) =
+      let all : (k : ℕ) (x : StoredEntry) → slice_get new k ≡ Some x → IsSame x.seen → IsDecided then_marked (epoch_in x) × IsShown hash scheme (entry_in x) watch.name.now (expected key then_marked (epoch_in x)) =
       λ k x at_x same.
       let y = was_at old new place was at number marks k x at_x in
       subst (λ (e : Entry). IsDecided then_marked e.body.t × IsShown hash scheme e watch.name.now (expected key then_marked e.body.t)) y.2 (⊎_elim
-      (λ (kept : IsSame x.seen → IsSame y.0.seen).
-      let before = watched.decided k y.0 y.1 (kept same) in
+      (λ (stored : IsSame x.seen → IsSame y.0.seen).
+      let before = watched.decided k y.0 y.1 (stored same) in
       let keeps = marked-keeps 0 key changes (epoch_in was) answer (epoch_in y.0) watched.order before in
-      (keeps.0, subst (λ (a : Option (List ℕ)). IsShown hash scheme (entry_in y.0) watch.name.now a) (sym keeps.1) (watched.backed k y.0 y.1 (kept same))))
+      (keeps.0, subst (λ (a : Option (List ℕ)). IsShown hash scheme (entry_in y.0) watch.name.now a) (sym keeps.1) (watched.backed k y.0 y.1 (stored same))))
       (λ (here : (k ≡ place) × (IsSame x.seen → SaysSame number)).
       let is : was ≡ y.0 = same_Some was y.0 (sym at ∙ ap (slice_get old) (sym here.0) ∙ y.1) in
-      let told = decides (here.1 same) in
-      subst (λ (z : Kept). IsDecided then_marked (epoch_in z) × IsShown hash scheme (entry_in z) watch.name.now (expected key then_marked (epoch_in z))) is
-      (told.0, subst (λ (a : Option (List ℕ)). IsShown hash scheme (entry_in was) watch.name.now a) (sym told.1) shown))
+      let reported = decides (here.1 same) in
+      subst (λ (z : StoredEntry). IsDecided then_marked (epoch_in z) × IsShown hash scheme (entry_in z) watch.name.now (expected key then_marked (epoch_in z))) is
+      (reported.0, subst (λ (a : Option (List ℕ)). IsShown hash scheme (entry_in was) watch.name.now a) (sym reported.1) shown))
       y.3) in
       record {
         order = marked-order 0 key changes (epoch_in was) answer watched.order;
@@ -97,10 +97,10 @@ module _ (hash : List ℕ → List ℕ) (scheme : Scheme) (old new : List Kept) 
           let then_is : now ≡ changes = is_now ∙ ap (λ (b : Bool). if b then marked (wanted watch.key.now) changes (epoch_in was) answer else changes) e in
           let new_is : new ≡ old = subst (Marks old new place) number_is marks in
           subst (λ (l : List Change). IsWatched hash scheme watch.name.now (wanted watch.key.now) l new) (sym then_is)
-          (subst (λ (l : List Kept). IsWatched hash scheme watch.name.now (wanted watch.key.now) changes l) (sym new_is) watched)
+          (subst (λ (l : List StoredEntry). IsWatched hash scheme watch.name.now (wanted watch.key.now) changes l) (sym new_is) watched)
 
 -- whatever is watched
-pub any-watched : (hash : List ℕ → List ℕ) (scheme : Scheme) (old new : List Kept) (place : ℕ) (was : Kept) (at : slice_get old place ≡ Some was)
+pub any-watched : (hash : List ℕ → List ℕ) (scheme : Scheme) (old new : List StoredEntry) (place : ℕ) (was : StoredEntry) (at : slice_get old place ≡ Some was)
     (watch : Option Watch) (changes : List Change) (answer : Option (List ℕ)) (name : List ℕ) (number : Option ℕ) (now : List Change)
     → Marks old new place number → number ≡ given_number watch changes name (epoch_in was) answer
     → now ≡ given_changes watch changes name (epoch_in was) answer → IsShown hash scheme (entry_in was) name answer
@@ -110,30 +110,30 @@ any-watched hash scheme old new place was at (Some watch) changes answer name nu
     given-watched hash scheme old new place was at watch changes answer name number now marks is_number is_now shown
 
 -- an epoch that shows nothing yet needs nothing behind it
-pub watched-push : (hash : List ℕ → List ℕ) (scheme : Scheme) (name : List ℕ) (key : Option (List ℕ)) (changes : List Change) (kept : List Kept) (mine : Kept)
-    → ¬ IsSame mine.seen → IsWatched hash scheme name key changes kept → IsWatched hash scheme name key changes (with_one kept mine)
-watched-push hash scheme name key changes kept mine unseen watched = record {
+pub watched-push : (hash : List ℕ → List ℕ) (scheme : Scheme) (name : List ℕ) (key : Option (List ℕ)) (changes : List Change) (stored : List StoredEntry) (mine : StoredEntry)
+    → ¬ IsSame mine.seen → IsWatched hash scheme name key changes stored → IsWatched hash scheme name key changes (with_one stored mine)
+watched-push hash scheme name key changes stored mine unseen watched = record {
   order = watched.order;
   decided = λ k x at same. ⊎_elim
-      (λ (old : (k < length kept) × (slice_get kept k ≡ Some x)). watched.decided k x old.1 same)
-      (λ (new : (k ≡ length kept) × (mine ≡ x)). absurd (unseen (subst (λ (y : Kept). IsSame y.seen) (sym new.1) same)))
-      (which kept mine x k at);
-  backed = backed-push hash scheme name (expected key changes) kept mine unseen watched.backed;
+      (λ (old : (k < length stored) × (slice_get stored k ≡ Some x)). watched.decided k x old.1 same)
+      (λ (new : (k ≡ length stored) × (mine ≡ x)). absurd (unseen (subst (λ (y : StoredEntry). IsSame y.seen) (sym new.1) same)))
+      (which stored mine x k at);
+  backed = backed-push hash scheme name (expected key changes) stored mine unseen watched.backed;
 }
 
--- the last kept epochs, and the first ones
-pub drop-watched : (hash : List ℕ → List ℕ) (scheme : Scheme) (name : List ℕ) (key : Option (List ℕ)) (changes : List Change) (kept : List Kept) (n : ℕ)
-    → IsWatched hash scheme name key changes kept → IsWatched hash scheme name key changes (drop n kept)
-drop-watched hash scheme name key changes kept n watched = record {
+-- the last stored epochs, and the first ones
+pub drop-watched : (hash : List ℕ → List ℕ) (scheme : Scheme) (name : List ℕ) (key : Option (List ℕ)) (changes : List Change) (stored : List StoredEntry) (n : ℕ)
+    → IsWatched hash scheme name key changes stored → IsWatched hash scheme name key changes (drop n stored)
+drop-watched hash scheme name key changes stored n watched = record {
   order = watched.order;
-  decided = λ k x at same. watched.decided (n + k) x (sym (of_drop kept n k) ∙ at) same;
-  backed = drop-backed hash scheme name (expected key changes) kept n watched.backed;
+  decided = λ k x at same. watched.decided (n + k) x (sym (of_drop stored n k) ∙ at) same;
+  backed = drop-backed hash scheme name (expected key changes) stored n watched.backed;
 }
 
-pub take-watcher : (hash : List ℕ → List ℕ) (scheme : Scheme) (name : List ℕ) (key : Option (List ℕ)) (changes : List Change) (first last : ℕ) (kept : List Kept) (n : ℕ)
-    → IsWatcher hash scheme name key changes first last kept → IsWatcher hash scheme name key changes first last (take n kept)
-take-watcher hash scheme name key changes first last kept n owns =
-    let part = take-owner hash scheme name (expected key changes) first last kept n
+pub take-watcher : (hash : List ℕ → List ℕ) (scheme : Scheme) (name : List ℕ) (key : Option (List ℕ)) (changes : List Change) (first last : ℕ) (stored : List StoredEntry) (n : ℕ)
+    → IsWatcher hash scheme name key changes first last stored → IsWatcher hash scheme name key changes first last (take n stored)
+take-watcher hash scheme name key changes first last stored n owns =
+    let part = take-owner hash scheme name (expected key changes) first last stored n
     (record { chain = owns.chain; begins = owns.begins; same = owns.same; backed = owns.watched.backed }) in
     record {
       chain = part.chain;
@@ -141,7 +141,7 @@ take-watcher hash scheme name key changes first last kept n owns =
       same = part.same;
       watched = record {
         order = owns.watched.order;
-        decided = λ k x at same. owns.watched.decided k x (of_take kept n k x at) same;
+        decided = λ k x at same. owns.watched.decided k x (of_take stored n k x at) same;
         backed = part.backed;
       };
     }

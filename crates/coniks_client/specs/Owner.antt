@@ -7,10 +7,10 @@ use Rattle.coniks_proof.specs.Proofs.{Accepts}
 use Rattle.coniks_proof.specs.declared.paths.Proof.{Proof}
 use Rattle.coniks_chain.specs.Fork.{EndsWith, IsFork}
 use Rattle.coniks_chain.specs.declared.entry.Entry.{Entry}
-use Rattle.coniks_client.specs.Kept.{IsChain, entries_in, entry_in, epoch_in}
+use Rattle.coniks_client.specs.StoredEntry.{IsChain, entries_in, entry_in, epoch_in}
 use Rattle.coniks_client.specs.Changes.{AreInOrder, IsDecided, expected}
 use Rattle.coniks_client.specs.declared.changes.Change.{Change}
-use Rattle.coniks_client.specs.declared.kept.Kept.{Kept}
+use Rattle.coniks_client.specs.declared.stored.StoredEntry.{StoredEntry}
 
 -- where names are stored: the index that a VRF proof of a name verifies to, if it does
 abbrev pub Scheme : Type 0
@@ -33,50 +33,50 @@ pub record IsShown (hash : Octets → Octets) (scheme : Scheme) (entry : Entry) 
   pub indexed : scheme name vrf ≡ Some index
   pub accepted : Accepts (hashing hash entry.body.nonce.0) entry.body.root.0 index name proof answer
 
--- the number of a kept epoch says that the expected key was seen
+-- the number of a stored epoch says that the expected key was seen
 abbrev pub IsSame : ℕ → Type 0
 IsSame number = number ≡ 1
 
 -- what was expected of an epoch was shown, wherever the number says so
-abbrev pub IsBacked : (Octets → Octets) → Scheme → Octets → (ℕ → Option Octets) → List Kept → Type 0
-IsBacked hash scheme name expected kept = (k : ℕ) (mine : Kept) → slice_get kept k ≡ Some mine
+abbrev pub IsBacked : (Octets → Octets) → Scheme → Octets → (ℕ → Option Octets) → List StoredEntry → Type 0
+IsBacked hash scheme name expected stored = (k : ℕ) (mine : StoredEntry) → slice_get stored k ≡ Some mine
     → IsSame mine.seen → IsShown hash scheme (entry_in mine) name (expected (epoch_in mine))
 
 -- no change is open at an epoch whose number says so
-abbrev pub AreDecided : List Change → List Kept → Type 0
-AreDecided changes kept = (k : ℕ) (mine : Kept) → slice_get kept k ≡ Some mine → IsSame mine.seen → IsDecided changes (epoch_in mine)
+abbrev pub AreDecided : List Change → List StoredEntry → Type 0
+AreDecided changes stored = (k : ℕ) (mine : StoredEntry) → slice_get stored k ≡ Some mine → IsSame mine.seen → IsDecided changes (epoch_in mine)
 
 -- the changes are in order, and each epoch that was seen as the same shows what is expected of it by the changes as they are now
-pub record IsWatched (hash : Octets → Octets) (scheme : Scheme) (name : Octets) (key : Option Octets) (changes : List Change) (kept : List Kept) : Type 0 where
+pub record IsWatched (hash : Octets → Octets) (scheme : Scheme) (name : Octets) (key : Option Octets) (changes : List Change) (stored : List StoredEntry) : Type 0 where
   pub order : AreInOrder 0 changes
-  pub decided : AreDecided changes kept
-  pub backed : IsBacked hash scheme name (expected key changes) kept
+  pub decided : AreDecided changes stored
+  pub backed : IsBacked hash scheme name (expected key changes) stored
 
--- each kept epoch is this one or a later one
-abbrev pub AreFrom : ℕ → List Kept → Type 0
-AreFrom oldest kept = (k : ℕ) (mine : Kept) → slice_get kept k ≡ Some mine → oldest ≤ epoch_in mine
+-- each stored epoch is this one or a later one
+abbrev pub AreFrom : ℕ → List StoredEntry → Type 0
+AreFrom oldest stored = (k : ℕ) (mine : StoredEntry) → slice_get stored k ≡ Some mine → oldest ≤ epoch_in mine
 
--- each kept epoch is this one or an earlier one
-abbrev pub AreUpTo : ℕ → List Kept → Type 0
-AreUpTo latest kept = (k : ℕ) (mine : Kept) → slice_get kept k ≡ Some mine → epoch_in mine ≤ latest
+-- each stored epoch is this one or an earlier one
+abbrev pub AreUpTo : ℕ → List StoredEntry → Type 0
+AreUpTo latest stored = (k : ℕ) (mine : StoredEntry) → slice_get stored k ≡ Some mine → epoch_in mine ≤ latest
 
 -- an owner's chain up to a head: it begins at or before the first watched epoch, and each epoch of it from the first to
 -- the last shows what was expected; so none is missing
-pub record IsOwner (hash : Octets → Octets) (scheme : Scheme) (name : Octets) (expected : ℕ → Option Octets) (first last : ℕ) (kept : List Kept) : Type 0 where
-  pub chain : IsChain hash kept
-  pub begins : (mine : Kept) → slice_get kept 0 ≡ Some mine → epoch_in mine ≤ first
-  pub same : (k : ℕ) (mine : Kept) → slice_get kept k ≡ Some mine → first ≤ epoch_in mine → epoch_in mine ≤ last → IsSame mine.seen
-  pub backed : IsBacked hash scheme name expected kept
+pub record IsOwner (hash : Octets → Octets) (scheme : Scheme) (name : Octets) (expected : ℕ → Option Octets) (first last : ℕ) (stored : List StoredEntry) : Type 0 where
+  pub chain : IsChain hash stored
+  pub begins : (mine : StoredEntry) → slice_get stored 0 ≡ Some mine → epoch_in mine ≤ first
+  pub same : (k : ℕ) (mine : StoredEntry) → slice_get stored k ≡ Some mine → first ≤ epoch_in mine → epoch_in mine ≤ last → IsSame mine.seen
+  pub backed : IsBacked hash scheme name expected stored
 
 -- the same of a client's state: the key and the changes that it has now say what is expected
-pub record IsWatcher (hash : Octets → Octets) (scheme : Scheme) (name : Octets) (key : Option Octets) (changes : List Change) (first last : ℕ) (kept : List Kept) : Type 0 where
-  pub chain : IsChain hash kept
-  pub begins : (mine : Kept) → slice_get kept 0 ≡ Some mine → epoch_in mine ≤ first
-  pub same : (k : ℕ) (mine : Kept) → slice_get kept k ≡ Some mine → first ≤ epoch_in mine → epoch_in mine ≤ last → IsSame mine.seen
-  pub watched : IsWatched hash scheme name key changes kept
+pub record IsWatcher (hash : Octets → Octets) (scheme : Scheme) (name : Octets) (key : Option Octets) (changes : List Change) (first last : ℕ) (stored : List StoredEntry) : Type 0 where
+  pub chain : IsChain hash stored
+  pub begins : (mine : StoredEntry) → slice_get stored 0 ≡ Some mine → epoch_in mine ≤ first
+  pub same : (k : ℕ) (mine : StoredEntry) → slice_get stored k ≡ Some mine → first ≤ epoch_in mine → epoch_in mine ≤ last → IsSame mine.seen
+  pub watched : IsWatched hash scheme name key changes stored
 
 -- two entries of the chains that differ and have one link; `extract_history` finds them
-abbrev pub Fork : (Octets → Octets) → List Kept → List Kept → Type 0
+abbrev pub Fork : (Octets → Octets) → List StoredEntry → List StoredEntry → Type 0
 Fork hash xs ys = (e f : Entry) × IsFork hash (entries_in xs) (entries_in ys) e f
 
 -- two accepted proofs of the name with different answers, under one root; `extract` finds what collides in them
@@ -90,7 +90,7 @@ TwoAnswers hash entry name = (index : Octets) × (p : Proof) × (q : Proof)
 -- VRF proofs give the name two indices.
 abbrev pub OwnerLaw : Type 0
 OwnerLaw = (hash : Octets → Octets) (scheme : Scheme) (name : Octets) (key : Option Octets) (changes : List Change) (first last : ℕ)
-    (alice bob : List Kept) (head : Octets) (place : ℕ) (his : Kept) (answer : Option Octets)
+    (alice bob : List StoredEntry) (head : Octets) (place : ℕ) (his : StoredEntry) (answer : Option Octets)
     → IsWatcher hash scheme name key changes first last alice → EndsWith hash (entries_in alice) head
     → IsChain hash bob → EndsWith hash (entries_in bob) head
     → slice_get bob place ≡ Some his → first ≤ epoch_in his → epoch_in his ≤ last
@@ -100,7 +100,7 @@ OwnerLaw = (hash : Octets → Octets) (scheme : Scheme) (name : Octets) (key : O
 -- the same for an index scheme that is a function of the name
 abbrev pub OwnerLawOfFunctions : Type 0
 OwnerLawOfFunctions = (hash : Octets → Octets) (scheme : Scheme) (name : Octets) (key : Option Octets) (changes : List Change) (first last : ℕ)
-    (alice bob : List Kept) (head : Octets) (place : ℕ) (his : Kept) (answer : Option Octets)
+    (alice bob : List StoredEntry) (head : Octets) (place : ℕ) (his : StoredEntry) (answer : Option Octets)
     → IsFunctional scheme
     → IsWatcher hash scheme name key changes first last alice → EndsWith hash (entries_in alice) head
     → IsChain hash bob → EndsWith hash (entries_in bob) head

@@ -1,7 +1,7 @@
 -- The steps of a client, and what each of them keeps.
 use Rattle.std.specs.Int.{to_be_bytes, w64}
 use Rattle.std.specs.Option.{option_map}
-use Rattle.coniks_client.specs.Kept.{IsChain, entry_in, epoch_in, latest_in, verified_before}
+use Rattle.coniks_client.specs.StoredEntry.{IsChain, entry_in, epoch_in, latest_in, verified_before}
 use Rattle.coniks_client.specs.Changes.{marked, wanted}
 use Rattle.coniks_client.specs.declared.changes.Change.{Change}
 use Rattle.std.specs.Prelude.{◌≡◌, ◌≢◌, ◌<◌, ◌≤◌, ◌-◌, ◌&&◌, ◌↔◌, ℕ, List, [], ◌∷◌, ◌++◌, Bool, Option, Some, None, if◌then◌else◌, nat_le, length, slice_get}
@@ -14,7 +14,7 @@ use Rattle.coniks_chain.specs.declared.entry.Entry.{Entry}
 use Rattle.coniks_client.specs.Feeding.{AreOwn, Continues, ConvictsNone, IsSignedAgain, IsVerified}
 use Rattle.coniks_client.specs.Owner.{IsSame, IsShown, Scheme}
 use Rattle.coniks_client.specs.Watching.{first_number, seen_number}
-use Rattle.coniks_client.specs.declared.kept.Kept.{Kept}
+use Rattle.coniks_client.specs.declared.stored.StoredEntry.{StoredEntry}
 use Rattle.coniks_client.specs.declared.steps.Accepted.{Accepted}
 use Rattle.coniks_client.specs.declared.steps.Accepted.TheVariants.{Next, Again}
 use Rattle.coniks_client.specs.declared.watching.Watch.{Watch}
@@ -24,40 +24,40 @@ abbrev pub new_number : Option Watch → ℕ → ℕ
 new_number None epoch = 0
 new_number (Some watch) epoch = first_number watch epoch
 
--- a kept epoch more
-abbrev pub with_one : List Kept → Kept → List Kept
-with_one kept mine = kept ++ mine ∷ []
+-- a stored epoch more
+abbrev pub with_one : List StoredEntry → StoredEntry → List StoredEntry
+with_one stored mine = stored ++ mine ∷ []
 
--- another kept epoch in the place of the latest one
-abbrev pub with_latest : List Kept → Kept → List Kept
-with_latest kept mine = set kept (length kept - 1) mine
+-- another stored epoch in the place of the latest one
+abbrev pub with_latest : List StoredEntry → StoredEntry → List StoredEntry
+with_latest stored mine = set stored (length stored - 1) mine
 
--- the kept epochs, once an entry was accepted
-abbrev pub kept_with : List Kept → Accepted → List Kept
-kept_with kept (Next mine) = with_one kept mine
-kept_with kept (Again mine) = with_latest kept mine
+-- the stored epochs, once an entry was accepted
+abbrev pub stored_with : List StoredEntry → Accepted → List StoredEntry
+stored_with stored (Next mine) = with_one stored mine
+stored_with stored (Again mine) = with_latest stored mine
 
--- what is kept of an entry that continues the chain
-abbrev pub new_kept : Option Watch → Octets → ℕ → Kept
-new_kept watch bytes time = record { entry = bytes; first_seen = to_be_bytes w64 time; seen = new_number watch (entry_from bytes).body.t }
+-- what is stored of an entry that continues the chain
+abbrev pub new_stored : Option Watch → Octets → ℕ → StoredEntry
+new_stored watch bytes time = record { entry = bytes; first_seen = to_be_bytes w64 time; seen = new_number watch (entry_from bytes).body.t }
 
--- what is kept of the latest entry, signed again
-abbrev pub again_kept : Kept → Octets → Kept
-again_kept latest bytes = record latest { entry = bytes }
+-- what is stored of the latest entry, signed again
+abbrev pub again_stored : StoredEntry → Octets → StoredEntry
+again_stored latest bytes = record latest { entry = bytes }
 
 -- the bytes are accepted: they are an entry that continues the chain, or the latest one, signed again
-abbrev pub IsAccepted : (Octets → Octets) → (Octets → Octets → Bool) → Octets → List Kept → Option Watch → Octets → ℕ → Accepted → Type 0
-IsAccepted hash verdict policy kept watch bytes time (Next mine) = Continues hash verdict policy kept bytes × (mine ≡ new_kept watch bytes time)
-IsAccepted hash verdict policy kept watch bytes time (Again mine) =
-    IsVerified verdict policy bytes × ((latest : Kept) × IsSignedAgain kept latest (entry_from bytes) × (mine ≡ again_kept latest bytes))
+abbrev pub IsAccepted : (Octets → Octets) → (Octets → Octets → Bool) → Octets → List StoredEntry → Option Watch → Octets → ℕ → Accepted → Type 0
+IsAccepted hash verdict policy stored watch bytes time (Next mine) = Continues hash verdict policy stored bytes × (mine ≡ new_stored watch bytes time)
+IsAccepted hash verdict policy stored watch bytes time (Again mine) =
+    IsVerified verdict policy bytes × ((latest : StoredEntry) × IsSignedAgain stored latest (entry_from bytes) × (mine ≡ again_stored latest bytes))
 
 -- the number at a place was changed, and nothing else
-pub record AreMarked (old new : List Kept) (place number : ℕ) : Type 0 where
+pub record AreMarked (old new : List StoredEntry) (place number : ℕ) : Type 0 where
   pub others : (k : ℕ) → k ≢ place → slice_get new k ≡ slice_get old k
-  pub here : (was : Kept) → slice_get old place ≡ Some was → slice_get new place ≡ Some (record was { seen = number })
+  pub here : (was : StoredEntry) → slice_get old place ≡ Some was → slice_get new place ≡ Some (record was { seen = number })
 
 -- what a lookup changes: the number of its epoch, or nothing
-abbrev pub Marks : List Kept → List Kept → ℕ → Option ℕ → Type 0
+abbrev pub Marks : List StoredEntry → List StoredEntry → ℕ → Option ℕ → Type 0
 Marks old new place None = new ≡ old
 Marks old new place (Some number) = AreMarked old new place number
 
@@ -82,40 +82,40 @@ abbrev pub SaysSame : Option ℕ → Type 0
 SaysSame None = ⊥
 SaysSame (Some number) = IsSame number
 
--- a kept epoch with the number that a function gives it
-abbrev pub with_number : (Kept → ℕ) → Kept → Kept
+-- a stored epoch with the number that a function gives it
+abbrev pub with_number : (StoredEntry → ℕ) → StoredEntry → StoredEntry
 with_number number mine = record mine { seen = number mine }
 
--- each kept epoch has the number that a function gives it, and is else as it was
-abbrev pub AreRenumbered : (Kept → ℕ) → List Kept → List Kept → Type 0
+-- each stored epoch has the number that a function gives it, and is else as it was
+abbrev pub AreRenumbered : (StoredEntry → ℕ) → List StoredEntry → List StoredEntry → Type 0
 AreRenumbered number old new = (k : ℕ) → slice_get new k ≡ option_map (with_number number) (slice_get old k)
 
 -- so are the first n, and the others are as they were
-pub record AreRenumberedTo (number : Kept → ℕ) (old new : List Kept) (n : ℕ) : Type 0 where
+pub record AreRenumberedTo (number : StoredEntry → ℕ) (old new : List StoredEntry) (n : ℕ) : Type 0 where
   pub done : (k : ℕ) → k < n → slice_get new k ≡ option_map (with_number number) (slice_get old k)
   pub left : (k : ℕ) → n ≤ k → slice_get new k ≡ slice_get old k
 
 -- when a name begins to be watched, each epoch from the first watched one on is missing
-abbrev pub unseen_number : Watch → Kept → ℕ
+abbrev pub unseen_number : Watch → StoredEntry → ℕ
 unseen_number watch mine = first_number watch (epoch_in mine)
 
 -- An entry that is signed again is not the next one.
 abbrev pub NotNextLaw : Type 0
-NotNextLaw = (hash : Octets → Octets) (kept : List Kept) (latest : Kept) (entry : Entry)
-    → IsSignedAgain kept latest entry → ¬ Follows verified_before (latest_in hash kept) entry
+NotNextLaw = (hash : Octets → Octets) (stored : List StoredEntry) (latest : StoredEntry) (entry : Entry)
+    → IsSignedAgain stored latest entry → ¬ Follows verified_before (latest_in hash stored) entry
 
--- It is evidence with no kept entry, if these are a chain of well-formed entries of the client's policy.
+-- It is evidence with no stored entry, if these are a chain of well-formed entries of the client's policy.
 abbrev pub NoEvidenceLaw : Type 0
-NoEvidenceLaw = (hash : Octets → Octets) (policy : Octets) (kept : List Kept) (latest : Kept) (entry : Entry)
-    → IsChain hash kept → AreOwn policy kept → IsSignedAgain kept latest entry → ConvictsNone kept entry
+NoEvidenceLaw = (hash : Octets → Octets) (policy : Octets) (stored : List StoredEntry) (latest : StoredEntry) (entry : Entry)
+    → IsChain hash stored → AreOwn policy stored → IsSignedAgain stored latest entry → ConvictsNone stored entry
 
 -- Under it exactly the same is shown as under the latest one.
 abbrev pub ShownAgainLaw : Type 0
-ShownAgainLaw = (hash : Octets → Octets) (scheme : Scheme) (kept : List Kept) (latest : Kept) (entry : Entry) (name : Octets) (answer : Option Octets)
-    → IsSignedAgain kept latest entry → IsShown hash scheme (entry_in latest) name answer ↔ IsShown hash scheme entry name answer
+ShownAgainLaw = (hash : Octets → Octets) (scheme : Scheme) (stored : List StoredEntry) (latest : StoredEntry) (entry : Entry) (name : Octets) (answer : Option Octets)
+    → IsSignedAgain stored latest entry → IsShown hash scheme (entry_in latest) name answer ↔ IsShown hash scheme entry name answer
 
--- What follows it follows the kept epochs once it is in the place of the latest one. So a client that is fed it goes on, whichever of
+-- What follows it follows the stored epochs once it is in the place of the latest one. So a client that is fed it goes on, whichever of
 -- the two signatures the next entry links to.
 abbrev pub GoesOnLaw : Type 0
-GoesOnLaw = (hash : Octets → Octets) (kept : List Kept) (latest mine : Kept) (next : Entry) → IsSignedAgain kept latest (entry_in mine)
-    → Follows verified_before (Some (auditor_after hash (entry_in mine))) next → Follows verified_before (latest_in hash (with_latest kept mine)) next
+GoesOnLaw = (hash : Octets → Octets) (stored : List StoredEntry) (latest mine : StoredEntry) (next : Entry) → IsSignedAgain stored latest (entry_in mine)
+    → Follows verified_before (Some (auditor_after hash (entry_in mine))) next → Follows verified_before (latest_in hash (with_latest stored mine)) next

@@ -3,10 +3,10 @@
 ghost use Rattle.std.specs.Prelude.{◌≡◌, ◌≤◌, ◌<◌, ℕ, List, true, Option, Some, drop, length, slice_get};
 ghost use Rattle.std.proofs.Math.ListN.{set};
 ghost use Rattle.coniks_proof.specs.Octets.{Octets};
-ghost use Rattle.coniks_proof.specs.Proofs.{said};
+ghost use Rattle.coniks_proof.specs.Proofs.{stated};
 ghost use Rattle.coniks_client.specs.Changes.{AreInOrder, IsDecided, Keeps, begun, expected, is_accepted, key_after, marked, may_show, narrowed, same_key, wanted};
 ghost use Rattle.coniks_client.specs.Owner.{AreFrom, IsWatched, Scheme};
-ghost use Rattle.coniks_client.specs.declared.kept.Kept.{Kept};
+ghost use Rattle.coniks_client.specs.declared.stored.StoredEntry.{StoredEntry};
 
 use coniks_proof::Answer;
 
@@ -22,7 +22,7 @@ pub struct Change<'a> {
 
 /// Returns whether an answer is a key, or no key if that has no byte.
 pub(crate) fn same_key(answer: &Answer<'_>, key: &[u8]) -> bool
-    ensures { result ≡ same_key (said answer.now) (wanted key.now) }
+    ensures { result ≡ same_key (stated answer.now) (wanted key.now) }
 {
     match answer {
         Answer::Absent => key.is_empty(),
@@ -85,7 +85,7 @@ fn change_at<'a>(changes: &[Change<'a>], place: usize) -> Change<'a>
 
 /// Returns whether an epoch may show the key, or the new key of the next change.
 fn may_show(key: &[u8], next: &Change<'_>, epoch: u64, answer: &Answer<'_>) -> bool
-    ensures { result ≡ may_show (wanted key.now) (Some next.now) epoch (said answer.now) }
+    ensures { result ≡ may_show (wanted key.now) (Some next.now) epoch (stated answer.now) }
 {
     same_key(answer, key) || (next.last_old < epoch && same_key(answer, next.key))
 }
@@ -97,7 +97,7 @@ pub(crate) fn is_accepted(
     epoch: u64,
     answer: &Answer<'_>,
 ) -> bool
-    ensures { result ≡ is_accepted (wanted key.now) changes.now epoch (said answer.now) }
+    ensures { result ≡ is_accepted (wanted key.now) changes.now epoch (stated answer.now) }
 {
     let stage = stage_at(key, changes, epoch);
     if stage.count < changes.len() {
@@ -110,7 +110,7 @@ pub(crate) fn is_accepted(
 
 /// Returns the next change, once an epoch before its first new one showed an answer.
 fn narrowed<'a>(key: &[u8], next: &Change<'a>, epoch: u64, answer: &Answer<'_>) -> Change<'a>
-    ensures { result ≡ narrowed (wanted key.now) next.now epoch (said answer.now) }
+    ensures { result ≡ narrowed (wanted key.now) next.now epoch (stated answer.now) }
 {
     let mut change = *next;
     if epoch > next.last_old {
@@ -133,7 +133,7 @@ fn set_change<'a>(changes: &mut [Change<'a>], place: usize, change: &Change<'a>)
 
 /// Marks what an epoch showed.
 fn mark_next(key: &[u8], changes: &mut [Change<'_>], epoch: u64, answer: &Answer<'_>)
-    ensures { changes.new ≡ marked (wanted key.now) changes.old epoch (said answer.now) }
+    ensures { changes.new ≡ marked (wanted key.now) changes.old epoch (stated answer.now) }
 {
     let stage = stage_at(key, changes, epoch);
     if stage.count < changes.len() {
@@ -145,13 +145,13 @@ fn mark_next(key: &[u8], changes: &mut [Change<'_>], epoch: u64, answer: &Answer
 
 /// Marks what an epoch showed: the next change has its last old epoch there, or its first new one.
 pub fn mark_changes(key: &[u8], changes: &mut [Change<'_>], epoch: u64, answer: &Answer<'_>)
-    ensures marked { changes.new ≡ marked (wanted key.now) changes.old epoch (said answer.now) }
+    ensures marked { changes.new ≡ marked (wanted key.now) changes.old epoch (stated answer.now) }
 
     // Nothing that is decided already changes, and what was accepted is decided then.
     ensures order { AreInOrder 0 changes.old → AreInOrder 0 changes.new }
     ensures keeps { (earlier : ℕ) → AreInOrder 0 changes.old → Keeps (wanted key.now) changes.old (wanted key.now) changes.new earlier }
-    ensures decides { AreInOrder 0 changes.old → is_accepted (wanted key.now) changes.old epoch (said answer.now) ≡ true
-        → IsDecided changes.new epoch × (expected (wanted key.now) changes.new epoch ≡ said answer.now) }
+    ensures decides { AreInOrder 0 changes.old → is_accepted (wanted key.now) changes.old epoch (stated answer.now) ≡ true
+        → IsDecided changes.new epoch × (expected (wanted key.now) changes.new epoch ≡ stated answer.now) }
 {
     mark_next(key, changes, epoch, answer);
 }
@@ -168,8 +168,8 @@ pub fn settle<'a>(key: &'a [u8], changes: &[Change<'a>], oldest: u64) -> Stage<'
         → Keeps (wanted key.now) changes.now (wanted result.key.now) (drop result.count changes.now) epoch }
     ensures accepts { (epoch : ℕ) (answer : Option Octets) → oldest ≤ epoch
         → is_accepted (wanted result.key.now) (drop result.count changes.now) epoch answer ≡ is_accepted (wanted key.now) changes.now epoch answer }
-    ensures watched { (hash : Octets → Octets) (scheme : Scheme) (name : Octets) (kept : List Kept) → AreFrom oldest kept
-        → IsWatched hash scheme name (wanted key.now) changes.now kept → IsWatched hash scheme name (wanted result.key.now) (drop result.count changes.now) kept }
+    ensures watched { (hash : Octets → Octets) (scheme : Scheme) (name : Octets) (stored : List StoredEntry) → AreFrom oldest stored
+        → IsWatched hash scheme name (wanted key.now) changes.now stored → IsWatched hash scheme name (wanted result.key.now) (drop result.count changes.now) stored }
 {
     stage_at(key, changes, oldest)
 }

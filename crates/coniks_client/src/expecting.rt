@@ -5,7 +5,7 @@ ghost use Rattle.coniks_client.specs.Changes.{AreInOrder, Keeps, expected, wante
 ghost use Rattle.coniks_client.specs.Expecting.{MayExpect, MayNotExpect};
 ghost use Rattle.coniks_proof.specs.Octets.{Octets};
 ghost use Rattle.coniks_client.specs.Owner.{AreUpTo, IsWatched, Scheme};
-ghost use Rattle.coniks_client.specs.declared.kept.Kept.{Kept};
+ghost use Rattle.coniks_client.specs.declared.stored.StoredEntry.{StoredEntry};
 
 use crate::changes::{Change, stage_at};
 use thiserror::Error;
@@ -73,8 +73,8 @@ pub fn expect<'a>(
     ensures keeps { IfOk result (λ change. (epoch : ℕ) → epoch ≤ latest
         → Keeps (wanted key.now) changes.now (wanted key.now) (with_change changes.now change) epoch) }
     ensures new { IfOk result (λ change. (epoch : ℕ) → by ≤ epoch → expected (wanted key.now) (with_change changes.now change) epoch ≡ wanted new.now) }
-    ensures watched { IfOk result (λ change. (hash : Octets → Octets) (scheme : Scheme) (name : Octets) (kept : List Kept) → AreUpTo latest kept
-        → IsWatched hash scheme name (wanted key.now) changes.now kept → IsWatched hash scheme name (wanted key.now) (with_change changes.now change) kept) }
+    ensures watched { IfOk result (λ change. (hash : Octets → Octets) (scheme : Scheme) (name : Octets) (stored : List StoredEntry) → AreUpTo latest stored
+        → IsWatched hash scheme name (wanted key.now) changes.now stored → IsWatched hash scheme name (wanted key.now) (with_change changes.now change) stored) }
 {
     match expect_fault(key, changes, latest, new, by) {
         Some(fault) => Err(fault),

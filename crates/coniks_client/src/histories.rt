@@ -12,7 +12,7 @@ pub mod shown;
 mod siblings;
 pub mod steps;
 
-pub use accepting::{AskingHistory, HistoryVerifier, accept};
+pub use accepting::{HistoryLookup, accept};
 pub use catch_ups::{CatchUpLength, read_catch_up};
 pub use faults::{AcceptFault, HistoryFault};
 pub use reading::{History, HistoryParts, history_parts, read_history};

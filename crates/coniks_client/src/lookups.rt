@@ -3,15 +3,15 @@
 ghost use Rattle.std.specs.Prelude.{◌≡◌, ◌≢◌, ◌<◌, ◌+◌, ◌↔◌, ℕ, Any, IfErr, IfNone, IfOk, IfSome, IsTrue, OnOk, Option, Some, None, length, slice_get};
 ghost use Rattle.std.specs.Option.{option_map};
 ghost use Rattle.coniks_proof.specs.Octets.{Octets};
-ghost use Rattle.coniks_proof.specs.Proofs.{said};
-ghost use Rattle.coniks_client.specs.Kept.{entry_in, epoch_in};
+ghost use Rattle.coniks_proof.specs.Proofs.{stated};
+ghost use Rattle.coniks_client.specs.StoredEntry.{entry_in, epoch_in};
 ghost use Rattle.coniks_chain.specs.Entries.{entry_from};
-ghost use Rattle.coniks_client.specs.Lookups.{Answers, AnswersNone, IsAsked, IsElsewhere, IsFound, IsKept, IsNotFound, IsThere, IsUnknown, IsUnvetted, IsUnvettedReply, IsVetted, IsVettedReply, Shows, ShowsNone};
+ghost use Rattle.coniks_client.specs.Lookups.{Answers, AnswersNone, IsRequested, IsElsewhere, IsFound, IsStored, IsNotFound, IsThere, IsUnknown, IsUnvetted, IsUnvettedReply, IsVetted, IsVettedReply, Shows, ShowsNone};
 ghost use Rattle.coniks_client.specs.Replies.{entry_part, proof_part, vrf_part};
 
 use crate::feeding::{EntryFault, evidence_of, verified};
-use crate::kept::Kept;
 use crate::replies::{Reply, ReplyFault};
+use crate::stored::StoredEntry;
 use crate::times::{AgeFault, Present, lateness};
 use coniks_chain::{ENTRY_BYTES, Entry, Evidence, Verify};
 use coniks_proof::{Answer, CheckFault, Hash32, Index, ProofRef, WireFault, check_ref};
@@ -42,7 +42,7 @@ pub enum LookupFault {
     UnknownEpoch,
     #[error("the reply's body isn't that of the chain's entry at the asked epoch")]
     OtherEpoch,
-    /// None was asked by its number.
+    /// None was requested by its number.
     #[error("the latest epoch isn't that of the present: {0}")]
     OffTime(AgeFault),
     #[error("the VRF proof isn't one of this name")]
@@ -53,7 +53,7 @@ pub enum LookupFault {
     Check(CheckFault),
 }
 
-/// What an accepted reply shows: the place of its epoch among the kept ones, and the answer, whose key is a part of the reply.
+/// What an accepted reply shows: the place of its epoch among the stored ones, and the answer, whose key is a part of the reply.
 #[derive(Clone, Copy)]
 pub struct Found<'a> {
     pub place: usize,
@@ -71,7 +71,7 @@ pub struct Verifier<'a, H, V, S> {
     pub present: Present,
 }
 
-/// A name that is looked up, the asked epoch, the latest one if it is `None`, and the bytes of the reply.
+/// A name that is looked up, the requested epoch, the latest one if it is `None`, and the bytes of the reply.
 #[derive(Clone, Copy)]
 pub struct Asking<'a> {
     pub name: &'a [u8],
@@ -79,32 +79,32 @@ pub struct Asking<'a> {
     pub reply: &'a [u8],
 }
 
-/// A kept epoch, and its place.
+/// A stored epoch, and its place.
 #[derive(Clone, Copy)]
 pub struct Place {
     pub place: usize,
-    pub mine: Kept,
+    pub mine: StoredEntry,
 }
 
-/// Returns the kept epoch at a place.
-pub fn kept_at(kept: &[Kept], place: usize) -> Place
-    requires { place < length kept.now }
+/// Returns the stored epoch at a place.
+pub fn stored_at(stored: &[StoredEntry], place: usize) -> Place
+    requires { place < length stored.now }
     ensures place { result.place ≡ place }
-    ensures there { slice_get kept.now place ≡ Some result.mine }
+    ensures there { slice_get stored.now place ≡ Some result.mine }
 {
-    let mine = kept[place];
+    let mine = stored[place];
     Place { place, mine }
 }
 
-/// Returns the kept epoch of a number where a chain has it: the epochs of a chain rise.
-fn kept_near(kept: &[Kept], epoch: u64) -> Option<Place>
-    ensures { IfSome result (λ found. (slice_get kept.now found.place ≡ Some found.mine) × (epoch_in found.mine ≡ epoch)) }
+/// Returns the stored epoch of a number where a chain has it: the epochs of a chain rise.
+fn stored_near(stored: &[StoredEntry], epoch: u64) -> Option<Place>
+    ensures { IfSome result (λ found. (slice_get stored.now found.place ≡ Some found.mine) × (epoch_in found.mine ≡ epoch)) }
 {
-    let place = kept.partition_point(|mine| mine.epoch() < epoch);
-    if place == kept.len() {
+    let place = stored.partition_point(|mine| mine.epoch() < epoch);
+    if place == stored.len() {
         return None;
     }
-    let found = kept_at(kept, place);
+    let found = stored_at(stored, place);
     if found.mine.epoch() == epoch {
         Some(found)
     } else {
@@ -112,12 +112,12 @@ fn kept_near(kept: &[Kept], epoch: u64) -> Option<Place>
     }
 }
 
-/// Returns the first kept epoch of a number.
-fn first_kept(kept: &[Kept], epoch: u64) -> Option<Place>
-    ensures some { IfSome result (λ found. (slice_get kept.now found.place ≡ Some found.mine) × (epoch_in found.mine ≡ epoch)) }
-    ensures none { IfNone result ((k : ℕ) (mine : Kept) → slice_get kept.now k ≡ Some mine → epoch_in mine ≢ epoch) }
+/// Returns the first stored epoch of a number.
+fn first_stored(stored: &[StoredEntry], epoch: u64) -> Option<Place>
+    ensures some { IfSome result (λ found. (slice_get stored.now found.place ≡ Some found.mine) × (epoch_in found.mine ≡ epoch)) }
+    ensures none { IfNone result ((k : ℕ) (mine : StoredEntry) → slice_get stored.now k ≡ Some mine → epoch_in mine ≢ epoch) }
 {
-    for (place, mine) in kept.iter().enumerate() {
+    for (place, mine) in stored.iter().enumerate() {
         if mine.epoch() == epoch {
             return Some(Place { place, mine: *mine });
         }
@@ -125,107 +125,107 @@ fn first_kept(kept: &[Kept], epoch: u64) -> Option<Place>
     None
 }
 
-/// Returns the kept epoch of a number.
+/// Returns the stored epoch of a number.
 ///
-/// It is searched by halves. Only a number that no kept epoch has is looked for in all of them, in any order.
-pub fn kept_of(kept: &[Kept], epoch: u64) -> Option<Place>
-    ensures some { IfSome result (λ found. (slice_get kept.now found.place ≡ Some found.mine) × (epoch_in found.mine ≡ epoch)) }
-    ensures none { IfNone result ((k : ℕ) (mine : Kept) → slice_get kept.now k ≡ Some mine → epoch_in mine ≢ epoch) }
+/// It is searched by halves. Only a number that no stored epoch has is looked for in all of them, in any order.
+pub fn stored_of(stored: &[StoredEntry], epoch: u64) -> Option<Place>
+    ensures some { IfSome result (λ found. (slice_get stored.now found.place ≡ Some found.mine) × (epoch_in found.mine ≡ epoch)) }
+    ensures none { IfNone result ((k : ℕ) (mine : StoredEntry) → slice_get stored.now k ≡ Some mine → epoch_in mine ≢ epoch) }
 {
-    match kept_near(kept, epoch) {
+    match stored_near(stored, epoch) {
         Some(found) => Some(found),
-        None => first_kept(kept, epoch),
+        None => first_stored(stored, epoch),
     }
 }
 
-/// Returns whether a kept entry has these bytes.
-fn has_bytes(mine: &Kept, bytes: &[u8; ENTRY_BYTES]) -> bool
+/// Returns whether a stored entry has these bytes.
+fn has_bytes(mine: &StoredEntry, bytes: &[u8; ENTRY_BYTES]) -> bool
     ensures { IsTrue result ↔ (mine.now.entry ≡ bytes.now) }
 {
     mine.entry == *bytes
 }
 
-/// Returns whether these bytes are kept where a chain has their epoch.
-fn is_near(kept: &[Kept], bytes: &[u8; ENTRY_BYTES]) -> bool
-    ensures { IsTrue result → IsKept kept.now bytes.now }
+/// Returns whether these bytes are stored where a chain has their epoch.
+fn is_near(stored: &[StoredEntry], bytes: &[u8; ENTRY_BYTES]) -> bool
+    ensures { IsTrue result → IsStored stored.now bytes.now }
 {
-    match kept_near(kept, Entry::read(bytes).body.t) {
+    match stored_near(stored, Entry::read(bytes).body.t) {
         Some(found) => has_bytes(&found.mine, bytes),
         None => false,
     }
 }
 
-/// Returns whether these bytes are kept: then their signature was verified before.
-pub fn is_kept(kept: &[Kept], bytes: &[u8; ENTRY_BYTES]) -> bool
-    ensures { IsTrue result ↔ (IsKept kept.now bytes.now) }
+/// Returns whether these bytes are stored: then their signature was verified before.
+pub fn is_stored(stored: &[StoredEntry], bytes: &[u8; ENTRY_BYTES]) -> bool
+    ensures { IsTrue result ↔ (IsStored stored.now bytes.now) }
 {
-    is_near(kept, bytes) || kept.iter().any(|mine| has_bytes(mine, bytes))
+    is_near(stored, bytes) || stored.iter().any(|mine| has_bytes(mine, bytes))
 }
 
-/// Returns why the entry of a reply is neither kept nor one of this directory that convicts with none.
+/// Returns why the entry of a reply is neither stored nor one of this directory that convicts with none.
 fn unvetted<V: Verify>(
     policy: &[u8; 32],
-    kept: &[Kept],
+    stored: &[StoredEntry],
     bytes: &[u8; ENTRY_BYTES],
     verify: &V,
 ) -> Option<LookupFault>
-    ensures none { IfNone result (IsVetted (V.verdict_of verify.now) policy.now kept.now bytes.now) }
-    ensures some { IfSome result (λ fault. IsUnvetted (V.verdict_of verify.now) policy.now kept.now bytes.now fault) }
+    ensures none { IfNone result (IsVetted (V.verdict_of verify.now) policy.now stored.now bytes.now) }
+    ensures some { IfSome result (λ fault. IsUnvetted (V.verdict_of verify.now) policy.now stored.now bytes.now fault) }
 {
-    if is_kept(kept, bytes) {
+    if is_stored(stored, bytes) {
         return None;
     }
-    let entry = match verified(policy, kept, bytes, verify) {
+    let entry = match verified(policy, stored, bytes, verify) {
         Ok(entry) => entry,
         Err(fault) => return Some(LookupFault::OfEntry(fault)),
     };
-    match evidence_of(kept, &entry) {
+    match evidence_of(stored, &entry) {
         Some(evidence) => Some(LookupFault::Equivocation(evidence)),
         None => None,
     }
 }
 
-/// Returns the latest kept epoch.
-fn latest_kept(kept: &[Kept]) -> Option<Place>
-    ensures some { IfSome result (λ found. (slice_get kept.now found.place ≡ Some found.mine) × (found.place + 1 ≡ length kept.now)) }
-    ensures none { IfNone result (length kept.now ≡ 0) }
+/// Returns the latest stored epoch.
+fn latest_stored(stored: &[StoredEntry]) -> Option<Place>
+    ensures some { IfSome result (λ found. (slice_get stored.now found.place ≡ Some found.mine) × (found.place + 1 ≡ length stored.now)) }
+    ensures none { IfNone result (length stored.now ≡ 0) }
 {
-    if kept.is_empty() {
+    if stored.is_empty() {
         return None;
     }
-    Some(kept_at(kept, kept.len() - 1))
+    Some(stored_at(stored, stored.len() - 1))
 }
 
-/// Returns the asked epoch, or the latest one if none is asked.
-fn asked(kept: &[Kept], epoch: Option<u64>) -> Option<Place>
-    ensures there { IfSome result (λ found. slice_get kept.now found.place ≡ Some found.mine) }
-    ensures some { IfSome result (λ found. IsAsked kept.now epoch found.place) }
-    ensures none { IfNone result (IsUnknown kept.now epoch) }
+/// Returns the requested epoch, or the latest one if none is requested.
+fn requested(stored: &[StoredEntry], epoch: Option<u64>) -> Option<Place>
+    ensures there { IfSome result (λ found. slice_get stored.now found.place ≡ Some found.mine) }
+    ensures some { IfSome result (λ found. IsRequested stored.now epoch found.place) }
+    ensures none { IfNone result (IsUnknown stored.now epoch) }
 {
     match epoch {
-        Some(epoch) => kept_of(kept, epoch),
-        None => latest_kept(kept),
+        Some(epoch) => stored_of(stored, epoch),
+        None => latest_stored(stored),
     }
 }
 
-/// Returns whether the body of an entry's bytes is that of a kept entry.
-fn same_body(bytes: &[u8; ENTRY_BYTES], mine: &Kept) -> bool
+/// Returns whether the body of an entry's bytes is that of a stored entry.
+fn same_body(bytes: &[u8; ENTRY_BYTES], mine: &StoredEntry) -> bool
     ensures { IsTrue result ↔ ((entry_from bytes.now).body ≡ (entry_in mine.now).body) }
 {
     Entry::read(bytes).body == mine.entry().body
 }
 
-/// Returns the asked epoch, if its entry has the body of these bytes.
-fn asked_body(
+/// Returns the requested epoch, if its entry has the body of these bytes.
+fn requested_body(
     present: &Present,
-    kept: &[Kept],
+    stored: &[StoredEntry],
     epoch: Option<u64>,
     bytes: &[u8; ENTRY_BYTES],
 ) -> Result<Place, LookupFault>
-    ensures ok { IfOk result (λ found. IsThere present.now kept.now epoch (entry_from bytes.now).body found.place found.mine) }
-    ensures err { IfErr result (λ fault. IsElsewhere present.now kept.now epoch (entry_from bytes.now).body fault) }
+    ensures ok { IfOk result (λ found. IsThere present.now stored.now epoch (entry_from bytes.now).body found.place found.mine) }
+    ensures err { IfErr result (λ fault. IsElsewhere present.now stored.now epoch (entry_from bytes.now).body fault) }
 {
-    let Some(found) = asked(kept, epoch) else {
+    let Some(found) = requested(stored, epoch) else {
         return Err(LookupFault::UnknownEpoch);
     };
     if !same_body(bytes, &found.mine) {
@@ -237,24 +237,24 @@ fn asked_body(
     Ok(found)
 }
 
-/// Returns the parts of a reply whose entry is kept, or one of this directory.
+/// Returns the parts of a reply whose entry is stored, or one of this directory.
 fn vetted_reply<'a, V: Verify>(
     policy: &[u8; 32],
-    kept: &[Kept],
+    stored: &[StoredEntry],
     bytes: &'a [u8],
     verify: &V,
 ) -> Result<Reply<'a>, LookupFault>
     ensures entry { IfOk result (λ reply. reply.entry.now ≡ entry_part bytes.now) }
     ensures vrf { IfOk result (λ reply. reply.vrf.now ≡ vrf_part bytes.now) }
     ensures proof { IfOk result (λ reply. reply.proof.now ≡ proof_part bytes.now) }
-    ensures ok { OnOk result (IsVettedReply (V.verdict_of verify.now) policy.now kept.now bytes.now) }
-    ensures err { IfErr result (λ fault. IsUnvettedReply (V.verdict_of verify.now) policy.now kept.now bytes.now fault) }
+    ensures ok { OnOk result (IsVettedReply (V.verdict_of verify.now) policy.now stored.now bytes.now) }
+    ensures err { IfErr result (λ fault. IsUnvettedReply (V.verdict_of verify.now) policy.now stored.now bytes.now fault) }
 {
     let reply = match Reply::read(bytes) {
         Ok(reply) => reply,
         Err(fault) => return Err(LookupFault::NoReply(fault)),
     };
-    match unvetted(policy, kept, reply.entry, verify) {
+    match unvetted(policy, stored, reply.entry, verify) {
         Some(fault) => Err(fault),
         None => Ok(reply),
     }
@@ -268,7 +268,7 @@ fn shown<'a, H: Hash32>(
     name: &[u8],
     bytes: &'a [u8],
 ) -> Result<Answer<'a>, LookupFault>
-    ensures ok { IfOk result (λ answer. Shows (H.digest_of h.now) entry.now index.now.0 name.now bytes.now (said answer)) }
+    ensures ok { IfOk result (λ answer. Shows (H.digest_of h.now) entry.now index.now.0 name.now bytes.now (stated answer)) }
     ensures err { IfErr result (λ fault. ShowsNone (H.digest_of h.now) entry.now index.now.0 name.now bytes.now fault) }
 {
     let proof = match ProofRef::read(bytes) {
@@ -282,25 +282,24 @@ fn shown<'a, H: Hash32>(
     }
 }
 
-/// Returns what a VRF proof and the bytes of a proof show of a name under a kept entry.
+/// Returns what the VRF proof and the proof of a reply show of a name under a stored entry.
 fn answer_of<'a, H: Hash32, S: IndexScheme>(
     h: &H,
     scheme: &S,
-    mine: &Kept,
+    mine: &StoredEntry,
     name: &[u8],
-    vrf: &[u8],
-    bytes: &'a [u8],
+    reply: &Reply<'a>,
 ) -> Result<Answer<'a>, LookupFault>
-    ensures ok { IfOk result (λ answer. Answers (H.digest_of h.now) (S.index_of scheme.now) (entry_in mine.now) name.now vrf.now bytes.now (said answer)) }
-    ensures err { IfErr result (λ fault. AnswersNone (H.digest_of h.now) (S.index_of scheme.now) (entry_in mine.now) name.now vrf.now bytes.now fault) }
+    ensures ok { IfOk result (λ answer. Answers (H.digest_of h.now) (S.index_of scheme.now) (entry_in mine.now) name.now reply.now.vrf.now reply.now.proof.now (stated answer)) }
+    ensures err { IfErr result (λ fault. AnswersNone (H.digest_of h.now) (S.index_of scheme.now) (entry_in mine.now) name.now reply.now.vrf.now reply.now.proof.now fault) }
 {
-    let Some(index) = scheme.index(name, vrf) else {
+    let Some(index) = scheme.index(name, reply.vrf) else {
         return Err(LookupFault::VrfProof);
     };
-    shown(h, &mine.entry(), &index, name, bytes)
+    shown(h, &mine.entry(), &index, name, reply.proof)
 }
 
-/// Returns what a reply shows of a name, at the asked epoch, or at the latest one if none is asked.
+/// Returns what a reply shows of a name, at the requested epoch, or at the latest one if none is requested.
 ///
 /// Nothing is changed. [`look_up`](crate::steps::look_up) also marks what a watched name shows.
 ///
@@ -309,31 +308,24 @@ fn answer_of<'a, H: Hash32, S: IndexScheme>(
 /// If several apply, the first in the order of [`LookupFault`] is returned.
 pub fn lookup<'a, H: Hash32, V: Verify, S: IndexScheme>(
     by: &Verifier<'_, H, V, S>,
-    kept: &[Kept],
+    stored: &[StoredEntry],
     asking: &Asking<'a>,
 ) -> Result<Found<'a>, LookupFault>
     ensures ok { IfOk result (λ found. IsFound by.now.present (H.digest_of by.now.hash.now) (V.verdict_of by.now.signatures.now) (S.index_of by.now.indices.now)
-        by.now.policy.now kept.now asking.now.name.now asking.now.reply.now asking.now.epoch found.place (said found.answer)) }
-    ensures within { IfOk result (λ found. found.place < length kept.now) }
+        by.now.policy.now stored.now asking.now.name.now asking.now.reply.now asking.now.epoch found.place (stated found.answer)) }
+    ensures within { IfOk result (λ found. found.place < length stored.now) }
     ensures err { IfErr result (λ fault. IsNotFound by.now.present (H.digest_of by.now.hash.now) (V.verdict_of by.now.signatures.now) (S.index_of by.now.indices.now)
-        by.now.policy.now kept.now asking.now.name.now asking.now.reply.now asking.now.epoch fault) }
+        by.now.policy.now stored.now asking.now.name.now asking.now.reply.now asking.now.epoch fault) }
 {
-    let reply = match vetted_reply(by.policy, kept, asking.reply, by.signatures) {
+    let reply = match vetted_reply(by.policy, stored, asking.reply, by.signatures) {
         Ok(reply) => reply,
         Err(fault) => return Err(fault),
     };
-    let found = match asked_body(&by.present, kept, asking.epoch, reply.entry) {
+    let found = match requested_body(&by.present, stored, asking.epoch, reply.entry) {
         Ok(found) => found,
         Err(fault) => return Err(fault),
     };
-    match answer_of(
-        by.hash,
-        by.indices,
-        &found.mine,
-        asking.name,
-        reply.vrf,
-        reply.proof,
-    ) {
+    match answer_of(by.hash, by.indices, &found.mine, asking.name, &reply) {
         Ok(answer) => Ok(Found {
             place: found.place,
             answer,

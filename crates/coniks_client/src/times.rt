@@ -58,12 +58,12 @@ pub struct Present {
     pub time: u64,
 }
 
-/// Returns why the latest epoch is not that of the present, if it is not, and none was asked by its number.
-pub(crate) fn lateness(present: &Present, asked: Option<u64>, epoch: u64) -> Option<AgeFault>
-    ensures none { IfNone result (IsInTime present.now asked epoch) }
-    ensures some { IfSome result (λ fault. IsLate present.now asked epoch fault) }
+/// Returns why the latest epoch is not that of the present, if it is not, and none was requested by its number.
+pub(crate) fn lateness(present: &Present, requested: Option<u64>, epoch: u64) -> Option<AgeFault>
+    ensures none { IfNone result (IsInTime present.now requested epoch) }
+    ensures some { IfSome result (λ fault. IsLate present.now requested epoch fault) }
 {
-    match (asked, &present.clock) {
+    match (requested, &present.clock) {
         (None, Some(clock)) => age_fault(clock, present.time, epoch),
         _ => None,
     }

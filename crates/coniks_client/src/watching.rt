@@ -1,7 +1,7 @@
 //! What a client sees of the watched name.
 
 ghost use Rattle.std.specs.Prelude.{◌≡◌};
-ghost use Rattle.coniks_proof.specs.Proofs.{said};
+ghost use Rattle.coniks_proof.specs.Proofs.{stated};
 ghost use Rattle.coniks_client.specs.Watching.{first_number, other_number, seen_number};
 
 use crate::changes::{Change, is_accepted};
@@ -32,7 +32,7 @@ pub struct Watch<'a> {
 
 /// Returns the number of an answer that is not accepted.
 fn other_number(answer: &Answer<'_>) -> u8
-    ensures { result ≡ other_number (said answer.now) }
+    ensures { result ≡ other_number (stated answer.now) }
 {
     match answer {
         Answer::Key(_) => CHANGED,
@@ -43,7 +43,7 @@ fn other_number(answer: &Answer<'_>) -> u8
 impl Watch<'_> {
     /// Returns the number of what an epoch shows.
     pub fn seen(&self, changes: &[Change<'_>], epoch: u64, answer: &Answer<'_>) -> u8
-        ensures { result ≡ seen_number self.now changes.now epoch (said answer.now) }
+        ensures { result ≡ seen_number self.now changes.now epoch (stated answer.now) }
     {
         if is_accepted(self.key, changes, epoch, answer) {
             SAME

@@ -1,6 +1,7 @@
 //! Catch-ups: the entries after an epoch, as a provider's service sends them.
 
 ghost use Rattle.std.specs.Prelude.{◌≡◌, ◌≢◌, ◌<◌, ◌*◌, ◌%◌, ℕ, IfOk, OnErr, Some, length, slice_get};
+ghost use Rattle.coniks_chain.specs.Entries.{entry_length};
 ghost use Rattle.coniks_client.specs.CatchUps.{entry_part};
 
 use coniks_chain::ENTRY_BYTES;
@@ -15,9 +16,9 @@ pub struct CatchUpLength;
 ///
 /// `CatchUpLength` if the number of bytes is not a multiple of 209. No entry is read then.
 pub fn read_catch_up(bytes: &[u8]) -> Result<&[[u8; ENTRY_BYTES]], CatchUpLength>
-    ensures all { IfOk result (λ entries. length entries.now * 209 ≡ length bytes.now) }
+    ensures all { IfOk result (λ entries. length entries.now * entry_length ≡ length bytes.now) }
     ensures each { IfOk result (λ entries. (k : ℕ) → k < length entries.now → slice_get entries.now k ≡ Some (entry_part k bytes.now)) }
-    ensures err { OnErr result (length bytes.now % 209 ≢ 0) }
+    ensures err { OnErr result (length bytes.now % entry_length ≢ 0) }
 {
     let (entries, rest) = bytes.as_chunks::<ENTRY_BYTES>();
     if !rest.is_empty() {

@@ -1,4 +1,4 @@
-//! The steps of a history, checked under the kept epochs.
+//! The steps of a history, checked under the stored epochs.
 
 ghost use Rattle.std.specs.Prelude.{◌≡◌, ◌<◌, ◌≤◌, IfErr, IfOk, OnOk, length};
 ghost use Rattle.coniks_proof.specs.ProofRefs.{owned};
@@ -10,49 +10,53 @@ use crate::histories::faults::AcceptFault;
 use crate::histories::reading::{left_by, no_step};
 use crate::histories::shown::{ShownStep, key_at, set_shown};
 use crate::histories::steps::{Before, Read, Step, read_step};
-use crate::kept::Kept;
-use crate::lookups::kept_of;
+use crate::lookups::stored_of;
+use crate::stored::StoredEntry;
 use coniks_chain::Entry;
 use coniks_proof::{CheckFault, Hash32, Index, ProofRef, Siblings, check_ref};
 
+/// Who checks the steps of a history: the caller's hash, for the stored epochs and a name at its index.
+#[derive(Drop)]
+pub(crate) struct StepChecker<'k, H> {
+    pub(crate) hash: &'k H,
+    pub(crate) stored: &'k [StoredEntry],
+    pub(crate) name: &'k [u8],
+    pub(crate) index: Index,
+}
+
 /// Checks the proof of a step under an entry.
 fn check_step<H: Hash32>(
-    h: &H,
+    by: &StepChecker<'_, H>,
     entry: &Entry,
-    index: &Index,
-    name: &[u8],
     siblings: &[[u8; 32]],
     step: &Step<'_>,
 ) -> Result<(), CheckFault>
     requires { step.now.count ≤ length siblings.now }
-    ensures ok { OnOk result (IsAcceptedUnder (H.digest_of h.now) index.now.0 entry.now name.now (step_in siblings.now step.now) (answer_of (owned step.now.end))) }
-    ensures err { IfErr result (λ fault. IsRefusedUnder (H.digest_of h.now) index.now.0 entry.now name.now (step_in siblings.now step.now) fault) }
+    ensures ok { OnOk result (IsAcceptedUnder (H.digest_of by.now.hash.now) by.now.index.0 entry.now by.now.name.now (step_in siblings.now step.now) (answer_of (owned step.now.end))) }
+    ensures err { IfErr result (λ fault. IsRefusedUnder (H.digest_of by.now.hash.now) by.now.index.0 entry.now by.now.name.now (step_in siblings.now step.now) fault) }
 {
     let body = &entry.body;
     let proof = ProofRef::new(Siblings::Wire(&siblings[..step.count]), step.end);
-    match check_ref(h, &body.nonce, &body.root, index, name, &proof) {
+    match check_ref(by.hash, &body.nonce, &body.root, &by.index, by.name, &proof) {
         Ok(_) => Ok(()),
         Err(fault) => Err(fault),
     }
 }
 
-/// Returns what a step shows under the kept epochs.
+/// Returns what a step shows under the stored epochs.
 fn shown_step<'a, H: Hash32>(
-    h: &H,
-    index: &Index,
-    kept: &[Kept],
-    name: &[u8],
+    by: &StepChecker<'_, H>,
     siblings: &[[u8; 32]],
     step: &Step<'a>,
 ) -> Result<ShownStep<'a>, AcceptFault>
     requires { step.now.count ≤ length siblings.now }
-    ensures ok { IfOk result (λ one. Passes (H.digest_of h.now) index.now.0 kept.now name.now (step_in siblings.now step.now) one.place (answer_in one)) }
-    ensures err { IfErr result (λ fault. PassesNot (H.digest_of h.now) index.now.0 kept.now name.now (step_in siblings.now step.now) fault) }
+    ensures ok { IfOk result (λ one. Passes (H.digest_of by.now.hash.now) by.now.index.0 by.now.stored.now by.now.name.now (step_in siblings.now step.now) one.place (answer_in one)) }
+    ensures err { IfErr result (λ fault. PassesNot (H.digest_of by.now.hash.now) by.now.index.0 by.now.stored.now by.now.name.now (step_in siblings.now step.now) fault) }
 {
-    let Some(found) = kept_of(kept, step.epoch) else {
+    let Some(found) = stored_of(by.stored, step.epoch) else {
         return Err(AcceptFault::UnknownEpoch);
     };
-    match check_step(h, &found.mine.entry(), index, name, siblings, step) {
+    match check_step(by, &found.mine.entry(), siblings, step) {
         Ok(()) => Ok(ShownStep {
             place: found.place,
             key: key_at(&step.end),
@@ -70,12 +74,9 @@ struct Passed<'a> {
     shown: ShownStep<'a>,
 }
 
-/// Reads a step, and returns what it shows under the kept epochs.
+/// Reads a step, and returns what it shows under the stored epochs.
 fn check_next<'a, H: Hash32>(
-    h: &H,
-    index: &Index,
-    kept: &[Kept],
-    name: &[u8],
+    by: &StepChecker<'_, H>,
     siblings: &mut [[u8; 32]],
     before: &Before<'a>,
     bytes: &'a [u8],
@@ -83,36 +84,33 @@ fn check_next<'a, H: Hash32>(
     requires memory { 256 ≤ length siblings.old }
     requires before { before.now.count ≤ 256 }
     ensures step { IfOk result (λ passed. IsStep (past_in siblings.old before.now) bytes.now (step_in siblings.new passed.read.step) passed.read.rest.now) }
-    ensures shown { IfOk result (λ passed. Passes (H.digest_of h.now) index.now.0 kept.now name.now
+    ensures shown { IfOk result (λ passed. Passes (H.digest_of by.now.hash.now) by.now.index.0 by.now.stored.now by.now.name.now
         (step_in siblings.new passed.read.step) passed.shown.place (answer_in passed.shown)) }
     ensures few { IfOk result (λ passed. passed.read.step.count ≤ 256) }
     ensures shorter { IfOk result (λ passed. length passed.read.rest.now < length bytes.now) }
-    ensures err { IfErr result (λ fault. NextPassesNot (H.digest_of h.now) index.now.0 kept.now name.now (past_in siblings.old before.now) bytes.now fault) }
+    ensures err { IfErr result (λ fault. NextPassesNot (H.digest_of by.now.hash.now) by.now.index.0 by.now.stored.now by.now.name.now (past_in siblings.old before.now) bytes.now fault) }
 {
     let read = match read_step(siblings, before, bytes) {
         Ok(read) => read,
         Err(fault) => return Err(AcceptFault::NoHistory(fault)),
     };
-    match shown_step(h, index, kept, name, siblings, &read.step) {
+    match shown_step(by, siblings, &read.step) {
         Ok(shown) => Ok(Passed { read, shown }),
         Err(fault) => Err(fault),
     }
 }
 
-/// Reads steps, and writes what each of them shows under the kept epochs. Returns their number.
+/// Reads steps, and writes what each of them shows under the stored epochs. Returns their number.
 pub(crate) fn check_steps<'a, H: Hash32>(
-    h: &H,
-    index: &Index,
-    kept: &[Kept],
-    name: &[u8],
+    by: &StepChecker<'_, H>,
     siblings: &mut [[u8; 32]],
     shown: &mut [ShownStep<'a>],
     bytes: &'a [u8],
 ) -> Result<usize, AcceptFault>
     requires { 256 ≤ length siblings.old }
-    ensures ok { IfOk result (λ count. AreChecked (H.digest_of h.now) index.now.0 kept.now name.now bytes.now shown.new count) }
+    ensures ok { IfOk result (λ count. AreChecked (H.digest_of by.now.hash.now) by.now.index.0 by.now.stored.now by.now.name.now bytes.now shown.new count) }
     ensures within { IfOk result (λ count. count ≤ length shown.new) }
-    ensures err { IfErr result (λ fault. AreUnchecked (H.digest_of h.now) index.now.0 kept.now name.now bytes.now (length shown.old) fault) }
+    ensures err { IfErr result (λ fault. AreUnchecked (H.digest_of by.now.hash.now) by.now.index.0 by.now.stored.now by.now.name.now bytes.now (length shown.old) fault) }
 {
     let mut before = no_step();
     let mut rest = bytes;
@@ -121,7 +119,7 @@ pub(crate) fn check_steps<'a, H: Hash32>(
         if count >= shown.len() {
             return Err(AcceptFault::NoRoom);
         }
-        let passed = match check_next(h, index, kept, name, siblings, &before, rest) {
+        let passed = match check_next(by, siblings, &before, rest) {
             Ok(passed) => passed,
             Err(fault) => return Err(fault),
         };

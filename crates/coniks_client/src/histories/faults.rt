@@ -37,7 +37,7 @@ pub enum AcceptFault {
     VrfProof,
     /// The slice for what the steps showed has no place for this one.
     NoRoom,
-    /// The step's epoch is not kept.
+    /// The step's epoch is not stored.
     UnknownEpoch,
     /// The step's proof is refused.
     Check(CheckFault),

@@ -28,28 +28,27 @@ pub(crate) fn rank(map: &[u8], n: usize) -> usize
     count
 }
 
-/// Returns whether bit `k` fits a map of `n` siblings after a step with `before` siblings.
-fn fits_at(map: &[u8], n: usize, before: usize, k: usize) -> bool
+/// Returns whether bit `k` fits a map of `n` siblings after a step with the old ones.
+fn fits_at(map: &[u8], n: usize, old: &[[u8; 32]], k: usize) -> bool
     requires { k < 8 * length map.now }
-    ensures yes { result ≡ true → FitsAt map.now n before k }
-    ensures no { result ≡ false → FitsNotAt map.now n before k }
+    ensures yes { result ≡ true → FitsAt map.now n (length old.now) k }
+    ensures no { result ≡ false → FitsNotAt map.now n (length old.now) k }
 {
     if bit_of(map, k) {
         k < n
     } else {
-        k >= n || k < before
+        k >= n || k < old.len()
     }
 }
 
-/// Returns whether no bit after the first `n` is set, and each sibling that is not sent is one of the `before` siblings of
-/// the step before.
-pub(crate) fn is_map(map: &[u8], n: usize, before: usize) -> bool
+/// Returns whether no bit after the first `n` is set, and each sibling that is not sent is an old one, of the step before.
+pub(crate) fn is_map(map: &[u8], n: usize, old: &[[u8; 32]]) -> bool
     requires { length map.now ≤ 32 }
-    ensures yes { result ≡ true → IsMap map.now n before }
-    ensures no { result ≡ false → IsNoMap map.now n before }
+    ensures yes { result ≡ true → IsMap map.now n (length old.now) }
+    ensures no { result ≡ false → IsNoMap map.now n (length old.now) }
 {
     for k in 0..8 * map.len() {
-        if !fits_at(map, n, before, k) {
+        if !fits_at(map, n, old, k) {
             return false;
         }
     }

@@ -3,32 +3,32 @@
 ghost use Rattle.std.specs.Prelude.{◌≡◌, ◌<◌, ◌≤◌, Some, length, slice_get};
 ghost use Rattle.coniks_client.specs.Steps.{is_watched};
 ghost use Rattle.coniks_client.specs.HistoryChecking.{answer_in};
-ghost use Rattle.coniks_client.specs.HistoryMarking.{AreNumberedTo, AreTold, HavePlaces, IsTold, number_at, number_in, numbered, shows_number};
+ghost use Rattle.coniks_client.specs.HistoryMarking.{AreNumberedTo, AreReported, HavePlaces, IsReported, number_at, number_in, numbered, shows_number};
 
 use crate::changes::Change;
 use crate::histories::shown::{ShownStep, set_shown};
-use crate::kept::Kept;
-use crate::lookups::kept_at;
+use crate::lookups::stored_at;
 use crate::steps::{give_changes, given_number, mark};
+use crate::stored::StoredEntry;
 use crate::watching::Watch;
 use coniks_proof::Answer;
 
 /// Gives the epoch of a step the number of its answer, and marks the changes, if the name is watched there.
 fn tell_step(
-    kept: &mut [Kept],
+    stored: &mut [StoredEntry],
     watch: &Option<Watch<'_>>,
     changes: &mut [Change<'_>],
     name: &[u8],
     one: &ShownStep<'_>,
 )
-    requires { one.now.place < length kept.old }
-    ensures { IsTold watch.now name.now one.now kept.old changes.old kept.new changes.new }
+    requires { one.now.place < length stored.old }
+    ensures { IsReported watch.now name.now one.now stored.old changes.old stored.new changes.new }
 {
     let answer = one.answer();
-    let at = kept_at(kept, one.place);
+    let at = stored_at(stored, one.place);
     let epoch = at.mine.entry().body.t;
     let number = given_number(watch, changes, name, epoch, &answer);
-    mark(kept, one.place, &number);
+    mark(stored, one.place, &number);
     give_changes(watch, changes, name, epoch, &answer);
 }
 
@@ -40,22 +40,19 @@ fn shown_at<'a>(shown: &[ShownStep<'a>], place: usize) -> ShownStep<'a>
     shown[place]
 }
 
-/// Marks the epochs of the first `count` steps, one after another.
+/// Marks the epochs of steps, one after another.
 pub(crate) fn tell_steps(
-    kept: &mut [Kept],
+    stored: &mut [StoredEntry],
     watch: &Option<Watch<'_>>,
     changes: &mut [Change<'_>],
     name: &[u8],
     shown: &[ShownStep<'_>],
-    count: usize,
 )
-    requires count { count ≤ length shown.now }
-    requires places { HavePlaces shown.now count kept.old }
-    ensures { AreTold watch.now name.now shown.now kept.old changes.old count kept.new changes.new }
+    requires { HavePlaces shown.now (length shown.now) stored.old }
+    ensures { AreReported watch.now name.now shown.now stored.old changes.old (length shown.now) stored.new changes.new }
 {
-    for i in 0..count {
-        let one = shown_at(shown, i);
-        tell_step(kept, watch, changes, name, &one);
+    for one in shown {
+        tell_step(stored, watch, changes, name, one);
     }
 }
 
@@ -66,8 +63,8 @@ fn is_watched(watch: &Watch<'_>, name: &[u8], epoch: u64) -> bool
     name == watch.name && watch.since <= epoch
 }
 
-/// Returns the number of a kept epoch, if the name is watched there, else 0.
-fn number_in(watch: &Option<Watch<'_>>, name: &[u8], mine: &Kept) -> u32
+/// Returns the number of a stored epoch, if the name is watched there, else 0.
+fn number_in(watch: &Option<Watch<'_>>, name: &[u8], mine: &StoredEntry) -> u32
     ensures { result ≡ number_in watch.now name.now mine.now }
 {
     match watch {
@@ -82,11 +79,11 @@ fn number_in(watch: &Option<Watch<'_>>, name: &[u8], mine: &Kept) -> u32
     }
 }
 
-/// Returns the number of the kept epoch at a place, if the name is watched there, else 0.
-fn number_at(watch: &Option<Watch<'_>>, name: &[u8], kept: &[Kept], place: usize) -> u32
-    ensures { result ≡ number_at watch.now name.now (slice_get kept.now place) }
+/// Returns the number of the stored epoch at a place, if the name is watched there, else 0.
+fn number_at(watch: &Option<Watch<'_>>, name: &[u8], stored: &[StoredEntry], place: usize) -> u32
+    ensures { result ≡ number_at watch.now name.now (slice_get stored.now place) }
 {
-    match kept.get(place) {
+    match stored.get(place) {
         Some(mine) => number_in(watch, name, mine),
         None => 0,
     }
@@ -106,33 +103,33 @@ fn shows_number(one: &ShownStep<'_>) -> u32
 fn numbered<'a>(
     watch: &Option<Watch<'_>>,
     name: &[u8],
-    kept: &[Kept],
+    stored: &[StoredEntry],
     one: &ShownStep<'a>,
 ) -> ShownStep<'a>
-    ensures { result ≡ numbered watch.now name.now kept.now one.now }
+    ensures { result ≡ numbered watch.now name.now stored.now one.now }
 {
     ShownStep {
         place: one.place,
         key: one.key,
         shows: shows_number(one),
-        seen: number_at(watch, name, kept, one.place),
+        seen: number_at(watch, name, stored, one.place),
     }
 }
 
 /// Writes what the first `count` steps show, and the numbers that their epochs have.
 pub(crate) fn number_steps(
-    kept: &[Kept],
+    stored: &[StoredEntry],
     watch: &Option<Watch<'_>>,
     name: &[u8],
     shown: &mut [ShownStep<'_>],
     count: usize,
 )
     requires { count ≤ length shown.old }
-    ensures { AreNumberedTo watch.now name.now kept.now shown.old shown.new count }
+    ensures { AreNumberedTo watch.now name.now stored.now shown.old shown.new count }
 {
     for i in 0..count {
         let one = shown_at(shown, i);
-        let done = numbered(watch, name, kept, &one);
+        let done = numbered(watch, name, stored, &one);
         set_shown(shown, i, &done);
     }
 }

@@ -1,13 +1,13 @@
 //! What the steps of a history showed.
 
-ghost use Rattle.std.specs.Prelude.{◌≡◌, ◌<◌, length};
+ghost use Rattle.std.specs.Prelude.{◌≡◌, ◌<◌, ◌≤◌, length, take};
 ghost use Rattle.coniks_proof.specs.ProofRefs.{owned};
-ghost use Rattle.coniks_proof.specs.Proofs.{said};
+ghost use Rattle.coniks_proof.specs.Proofs.{stated};
 ghost use Rattle.coniks_client.specs.HistoryChecking.{IsWritten, answer_in, key_of};
 
 use coniks_proof::{Answer, EndRef};
 
-/// What a step showed: the place of its epoch among the kept ones, and the key.
+/// What a step showed: the place of its epoch among the stored ones, and the key.
 #[repr(C)]
 #[derive(Clone, Copy)]
 pub struct ShownStep<'a> {
@@ -24,7 +24,7 @@ pub struct ShownStep<'a> {
 impl<'a> ShownStep<'a> {
     /// Returns the answer.
     pub fn answer(&self) -> Answer<'a>
-        ensures { said result ≡ answer_in self.now }
+        ensures { stated result ≡ answer_in self.now }
     {
         match self.key {
             [] => Answer::Absent,
@@ -53,4 +53,12 @@ pub(crate) fn set_shown<'a>(shown: &mut [ShownStep<'a>], place: usize, one: &Sho
     ensures { IsWritten shown.old shown.new place one.now }
 {
     shown[place] = *one;
+}
+
+/// Returns the first `count` steps.
+pub(crate) fn first_steps<'s, 'a>(shown: &'s [ShownStep<'a>], count: usize) -> &'s [ShownStep<'a>]
+    requires { count ≤ length shown.now }
+    ensures { result.now ≡ take count shown.now }
+{
+    &shown[..count]
 }

@@ -6,6 +6,7 @@ ghost use Rattle.coniks_client.specs.Siblings.{AreGiven, AreNew, AreRepeated, Ar
 
 use crate::histories::faults::HistoryFault;
 use crate::histories::maps::{bit_of, is_map, rank};
+use crate::histories::steps::Before;
 
 /// Writes a sibling.
 fn put(siblings: &mut [[u8; 32]], place: usize, value: [u8; 32])
@@ -40,35 +41,27 @@ fn unpack(siblings: &mut [[u8; 32]], map: &[u8], n: usize, sent: &[[u8; 32]])
 }
 
 /// Returns whether the sibling of the step before at a place equals one that was sent.
-fn is_repeated(siblings: &[[u8; 32]], before: usize, place: usize, value: &[u8; 32]) -> bool
-    requires { before ≤ length siblings.now }
-    ensures { IsTrue result ↔ (slice_get (take before siblings.now) place ≡ Some value.now) }
+fn is_repeated(old: &[[u8; 32]], place: usize, value: &[u8; 32]) -> bool
+    ensures { IsTrue result ↔ (slice_get old.now place ≡ Some value.now) }
 {
-    if place >= before {
+    if place >= old.len() {
         return false;
     }
-    string_at(siblings, place) == *value
+    string_at(old, place) == *value
 }
 
 /// Returns whether a sibling was sent that equals the one in its place of the step before.
-fn are_repeated(
-    siblings: &[[u8; 32]],
-    before: usize,
-    map: &[u8],
-    n: usize,
-    sent: &[[u8; 32]],
-) -> bool
-    requires room { before ≤ length siblings.now }
+fn are_repeated(old: &[[u8; 32]], map: &[u8], n: usize, sent: &[[u8; 32]]) -> bool
     requires bits { n ≤ 8 * length map.now }
     requires sent { length sent.now ≡ rank map.now n }
-    ensures yes { result ≡ true → AreRepeated (take before siblings.now) map.now n sent.now }
-    ensures no { result ≡ false → AreNew (take before siblings.now) map.now n sent.now }
+    ensures yes { result ≡ true → AreRepeated old.now map.now n sent.now }
+    ensures no { result ≡ false → AreNew old.now map.now n sent.now }
 {
     let mut taken = 0;
     for i in 0..n {
         if bit_of(map, i) {
             let value = string_at(sent, taken);
-            if is_repeated(siblings, before, i, &value) {
+            if is_repeated(old, i, &value) {
                 return true;
             }
             taken += 1;
@@ -110,34 +103,27 @@ struct Sent<'a> {
     rest: &'a [u8],
 }
 
-/// Returns the map of `n` siblings that bytes begin with, and those that are sent. The `before` siblings of the step before
-/// are at the front of the memory.
-fn split_siblings<'a>(
-    siblings: &[[u8; 32]],
-    before: usize,
-    n: usize,
-    bytes: &'a [u8],
-) -> Result<Sent<'a>, HistoryFault>
-    requires room { before ≤ length siblings.now }
-    requires few { n ≤ 256 }
+/// Returns the map of `n` siblings that bytes begin with, and those that are sent, after a step with the old siblings.
+fn split_siblings<'a>(old: &[[u8; 32]], n: usize, bytes: &'a [u8]) -> Result<Sent<'a>, HistoryFault>
+    requires { n ≤ 256 }
     ensures map { IfOk result (λ sent. sent.map.now ≡ map_part n bytes.now) }
     ensures siblings { IfOk result (λ sent. sent.siblings.now ≡ sent_part n bytes.now) }
     ensures rest { IfOk result (λ sent. sent.rest.now ≡ after_sent n bytes.now) }
     ensures bits { IfOk result (λ sent. n ≤ 8 * length sent.map.now) }
     ensures count { IfOk result (λ sent. length sent.siblings.now ≡ rank sent.map.now n) }
-    ensures ok { OnOk result (HasSiblings (take before siblings.now) n bytes.now) }
-    ensures err { IfErr result (λ fault. HasNoSiblings (take before siblings.now) n bytes.now fault) }
+    ensures ok { OnOk result (HasSiblings old.now n bytes.now) }
+    ensures err { IfErr result (λ fault. HasNoSiblings old.now n bytes.now fault) }
 {
     let Some((map, rest)) = split_map(bytes, n) else {
         return Err(HistoryFault::CutInStep);
     };
-    if !is_map(map, n, before) {
+    if !is_map(map, n, old) {
         return Err(HistoryFault::SiblingMap);
     }
     let Some((sent, rest)) = split_strings(rest, rank(map, n)) else {
         return Err(HistoryFault::CutInStep);
     };
-    if are_repeated(siblings, before, map, n, sent) {
+    if are_repeated(old, map, n, sent) {
         return Err(HistoryFault::SiblingRepeated);
     }
     Ok(Sent {
@@ -147,23 +133,22 @@ fn split_siblings<'a>(
     })
 }
 
-/// Writes the `n` siblings of a step over the `before` siblings of the step before, and returns the bytes after those that
-/// are sent.
+/// Writes the `n` siblings of a step over those of the step before, and returns the bytes after those that are sent.
 pub(crate) fn read_siblings<'a>(
     siblings: &mut [[u8; 32]],
-    before: usize,
+    before: &Before<'_>,
     n: usize,
     bytes: &'a [u8],
 ) -> Result<&'a [u8], HistoryFault>
-    requires room { before ≤ length siblings.old }
+    requires room { before.now.count ≤ length siblings.old }
     requires memory { 256 ≤ length siblings.old }
     requires few { n ≤ 256 }
-    ensures given { OnOk result (AreGiven (take before siblings.old) (map_part n bytes.now) n (sent_part n bytes.now) (take n siblings.new)) }
+    ensures given { OnOk result (AreGiven (take before.now.count siblings.old) (map_part n bytes.now) n (sent_part n bytes.now) (take n siblings.new)) }
     ensures rest { IfOk result (λ rest. rest.now ≡ after_sent n bytes.now) }
-    ensures ok { OnOk result (HasSiblings (take before siblings.old) n bytes.now) }
-    ensures err { IfErr result (λ fault. HasNoSiblings (take before siblings.old) n bytes.now fault) }
+    ensures ok { OnOk result (HasSiblings (take before.now.count siblings.old) n bytes.now) }
+    ensures err { IfErr result (λ fault. HasNoSiblings (take before.now.count siblings.old) n bytes.now fault) }
 {
-    let sent = match split_siblings(siblings, before, n, bytes) {
+    let sent = match split_siblings(&siblings[..before.count], n, bytes) {
         Ok(sent) => sent,
         Err(fault) => return Err(fault),
     };

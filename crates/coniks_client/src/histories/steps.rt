@@ -232,7 +232,7 @@ pub fn read_step<'a>(
         Ok(front) => front,
         Err(fault) => return Err(fault),
     };
-    let rest = match read_siblings(siblings, before.count, front.count, front.rest) {
+    let rest = match read_siblings(siblings, before, front.count, front.rest) {
         Ok(rest) => rest,
         Err(fault) => return Err(fault),
     };

@@ -1,7 +1,7 @@
 use Rattle.std.proofs.Common.{ℕ, ◌≡◌, List, Option, sym, subst, drop}
 use Rattle.coniks_client.specs.Changes.{AreInOrder, Keeps, begun, is_accepted, wanted}
 use Rattle.coniks_client.proofs.ChangeLemmas.{settled-accepts, settled-keeps, settled-order}
-use Rattle.coniks_client.specs.Kept.{epoch_in}
+use Rattle.coniks_client.specs.StoredEntry.{epoch_in}
 use Rattle.coniks_client.proofs.WatchLemmas.{watched-keeps}
 use Rattle.coniks_client.proofs.changes.settle.Goals as goal
 
@@ -21,6 +21,6 @@ returns-clause-accepts c = λ epoch answer le.
     (settled-accepts (wanted c.args.key.now) c.args.changes.now c.args.oldest epoch answer le))
 
 pub returns-clause-watched : goal.returns-clause-watched
-returns-clause-watched c = λ hash scheme name kept from watched.
-    watched-keeps hash scheme name (wanted c.args.key.now) (wanted c.stage_at.result.key.now) c.args.changes.now (drop c.stage_at.result.count c.args.changes.now) kept
+returns-clause-watched c = λ hash scheme name stored from watched.
+    watched-keeps hash scheme name (wanted c.args.key.now) (wanted c.stage_at.result.key.now) c.args.changes.now (drop c.stage_at.result.count c.args.changes.now) stored
     (λ k mine at. returns-clause-keeps c (epoch_in mine) (from k mine at) watched.order) (returns-clause-order c watched.order) watched

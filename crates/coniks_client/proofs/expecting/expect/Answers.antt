@@ -1,5 +1,5 @@
 use Rattle.coniks_client.specs.Changes.{wanted, with_change}
-use Rattle.coniks_client.specs.Kept.{epoch_in}
+use Rattle.coniks_client.specs.StoredEntry.{epoch_in}
 use Rattle.std.proofs.Common.{arith}
 use Rattle.coniks_client.proofs.ChangeLemmas.{more-keeps, more-new, more-order}
 use Rattle.coniks_client.proofs.WatchLemmas.{watched-keeps}
@@ -21,7 +21,7 @@ returns-in-None-clause-new c = λ epoch le.
     more-new (wanted c.args.key.now) c.args.changes.now (record { last_old = c.args.latest; first_new = c.args.by; key = c.args.new }) epoch may.begun may.later le
 
 pub returns-in-None-clause-watched : goal.returns-in-None-clause-watched
-returns-in-None-clause-watched c = λ hash scheme name kept upto watched.
+returns-in-None-clause-watched c = λ hash scheme name stored upto watched.
     watched-keeps hash scheme name (wanted c.args.key.now) (wanted c.args.key.now) c.args.changes.now
-    (with_change c.args.changes.now (record { last_old = c.args.latest; first_new = c.args.by; key = c.args.new })) kept
+    (with_change c.args.changes.now (record { last_old = c.args.latest; first_new = c.args.by; key = c.args.new })) stored
     (λ k mine at. returns-in-None-clause-keeps c (epoch_in mine) (upto k mine at)) (returns-in-None-clause-order c watched.order) watched

@@ -5,7 +5,7 @@ use Rattle.coniks_client.proofs.histories.checking.check_steps.Given as goal
 
 abbrev pub invariant-steps : goal.invariant-steps
 invariant-steps g l = record {
-  checked : AreCheckedTo (g.H.Hash32.digest_of l.h) l.index.0 l.kept l.name l.bytes l.shown (past_in l.siblings l.before) l.rest l.count;
+  checked : AreCheckedTo (g.H.Hash32.digest_of l.by.hash.now) l.by.index.0 l.by.stored.now l.by.name.now l.bytes l.shown (past_in l.siblings l.before) l.rest l.count;
   few : l.before.count ≤ 256;
   room : l.count ≤ length l.shown;
   same_room : length l.shown ≡ length l.initial.shown;

@@ -4,5 +4,5 @@ use Rattle.coniks_client.proofs.histories.checking.shown_step.Goals as goal
 
 pub returns-in-Ok-clause-ok : goal.returns-in-Ok-clause-ok
 returns-in-Ok-clause-ok g c =
-    passes-by (g.H.Hash32.digest_of c.args.h.now) c.args.index.now.0 c.args.kept.now c.args.name.now (step_in c.args.siblings.now c.args.step.now) c.in-Some.found.place
+    passes-by (g.H.Hash32.digest_of c.args.by.now.hash.now) c.args.by.now.index.0 c.args.by.now.stored.now c.args.by.now.name.now (step_in c.args.siblings.now c.args.step.now) c.in-Some.found.place
     c.in-Some.found.mine c.entry.result c.key_at.result.now c.in-Some.ensures.some.0 c.in-Some.ensures.some.1 c.entry.ensures c.key_at.ensures c.in-Ok.ensures.ok

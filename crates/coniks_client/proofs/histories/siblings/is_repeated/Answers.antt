@@ -1,8 +1,7 @@
-use Rattle.std.proofs.Common.{◌≡◌, ℕ, List, take, Some, sym, ◌∙◌, arith}
+use Rattle.std.proofs.Common.{◌≡◌, ℕ, List, Some, sym, ◌∙◌}
 use Rattle.std.specs.List.{slice_get}
 use Rattle.std.proofs.lemmas.Option.{same_Some}
 use Rattle.std.proofs.lemmas.Slice.Eq.{bytes_eq-Decides}
-use Rattle.coniks_client.proofs.SiblingLemmas.{get-take}
 use Rattle.coniks_client.proofs.histories.siblings.is_repeated.Goals as goal
 
 pub returns : goal.returns
@@ -10,8 +9,7 @@ returns c =
     let mine = c.string_at.result in
     let value = c.args.value.now in
     let decides = bytes_eq-Decides mine value in
-    let there : slice_get (take c.args.before c.args.siblings.now) c.args.place ≡ Some mine =
-    get-take c.args.before c.args.siblings.now c.args.place (omega arith) ∙ c.string_at.ensures in (
+    let there : slice_get c.args.old.now c.args.place ≡ Some mine = c.string_at.ensures in (
       λ yes. there ∙ some mine value (decides.0 (sym c.eq.ensures ∙ yes)),
       λ same. c.eq.ensures ∙ decides.1 (same_Some mine value (sym there ∙ same)),
     )

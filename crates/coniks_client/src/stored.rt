@@ -1,7 +1,7 @@
 //! What a client keeps of each epoch.
 
 ghost use Rattle.std.specs.Prelude.{◌≡◌, Option, length};
-ghost use Rattle.coniks_client.specs.Kept.{entry_in, epoch_in, latest_epoch, latest_in};
+ghost use Rattle.coniks_client.specs.StoredEntry.{entry_in, epoch_in, latest_epoch, latest_in};
 
 use coniks_chain::{AuditorState, ENTRY_BYTES, Entry, link};
 use coniks_proof::Hash32;
@@ -10,7 +10,7 @@ use coniks_proof::Hash32;
 /// state has for an epoch.
 #[repr(C)]
 #[derive(Clone, Copy)]
-pub struct Kept {
+pub struct StoredEntry {
     /// The entry's bytes.
     pub entry: [u8; ENTRY_BYTES],
     /// The Unix time in seconds, its most significant byte first.
@@ -29,7 +29,7 @@ fn eight(bytes: &[u8]) -> [u8; 8]
     array
 }
 
-impl Kept {
+impl StoredEntry {
     /// Returns the epoch of the entry.
     #[tactic(auto, unfolding(coniks_chain::specs::Entries::body_from))]
     pub fn epoch(&self) -> u64
@@ -46,21 +46,21 @@ impl Kept {
     }
 }
 
-/// Returns the latest kept epoch, 0 if none is kept.
-pub fn latest_epoch(kept: &[Kept]) -> u64
-    ensures { result ≡ latest_epoch kept.now }
+/// Returns the latest stored epoch, 0 if none is stored.
+pub fn latest_epoch(stored: &[StoredEntry]) -> u64
+    ensures { result ≡ latest_epoch stored.now }
 {
-    match kept.last() {
+    match stored.last() {
         Some(mine) => mine.epoch(),
         None => 0,
     }
 }
 
 /// Returns what the next entry is compared with, or `None` before the first.
-pub(crate) fn latest<H: Hash32>(h: &H, kept: &[Kept]) -> Option<AuditorState>
-    ensures { result ≡ latest_in (H.digest_of h.now) kept.now }
+pub(crate) fn latest<H: Hash32>(h: &H, stored: &[StoredEntry]) -> Option<AuditorState>
+    ensures { result ≡ latest_in (H.digest_of h.now) stored.now }
 {
-    let Some(last) = kept.last() else {
+    let Some(last) = stored.last() else {
         return None;
     };
     let entry = last.entry();

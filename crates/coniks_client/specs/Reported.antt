@@ -24,15 +24,15 @@ changes_by key changes (Expects change) = with_change changes change
 changes_by key changes (Settles oldest) = drop (begun changes oldest) changes
 
 -- an epoch is not later than the latest one when a change is taken, and not dropped when changes are
-abbrev pub IsKeptBy : Option Octets → List Change → ℕ → Event → Type 0
-IsKeptBy key changes epoch (Marks other answer) = Unit {0}
-IsKeptBy key changes epoch (Expects change) = (epoch ≤ change.last_old) × MayExpect key changes change.last_old (wanted change.key.now) change.first_new
-IsKeptBy key changes epoch (Settles oldest) = oldest ≤ epoch
+abbrev pub IsStoredBy : Option Octets → List Change → ℕ → Event → Type 0
+IsStoredBy key changes epoch (Marks other answer) = Unit {0}
+IsStoredBy key changes epoch (Expects change) = (epoch ≤ change.last_old) × MayExpect key changes change.last_old (wanted change.key.now) change.first_new
+IsStoredBy key changes epoch (Settles oldest) = oldest ≤ epoch
 
 -- so it is through events
-abbrev pub IsKeptThrough : Option Octets → List Change → ℕ → List Event → Type 0
-IsKeptThrough key changes epoch [] = Unit {0}
-IsKeptThrough key changes epoch (event ∷ later) = IsKeptBy key changes epoch event × IsKeptThrough (key_by key changes event) (changes_by key changes event) epoch later
+abbrev pub IsStoredThrough : Option Octets → List Change → ℕ → List Event → Type 0
+IsStoredThrough key changes epoch [] = Unit {0}
+IsStoredThrough key changes epoch (event ∷ later) = IsStoredBy key changes epoch event × IsStoredThrough (key_by key changes event) (changes_by key changes event) epoch later
 
 -- what is expected of an epoch after events
 abbrev pub expected_after : Option Octets → List Change → ℕ → List Event → Option Octets
@@ -41,16 +41,16 @@ expected_after key changes epoch (event ∷ later) = expected_after (key_by key 
 
 -- An epoch showed an answer and was seen as the same. Then this answer is what is expected of the epoch at any later time, whatever
 -- was verified, expected and settled since.
-abbrev pub ToldLaw : Type 0
-ToldLaw = (key : Option Octets) (changes : List Change) (epoch : ℕ) (answer : Option Octets) (later : List Event)
-    → AreInOrder 0 changes → is_accepted key changes epoch answer ≡ true → IsKeptThrough key changes epoch (Marks epoch answer ∷ later)
+abbrev pub ReportedLaw : Type 0
+ReportedLaw = (key : Option Octets) (changes : List Change) (epoch : ℕ) (answer : Option Octets) (later : List Event)
+    → AreInOrder 0 changes → is_accepted key changes epoch answer ≡ true → IsStoredThrough key changes epoch (Marks epoch answer ∷ later)
     → expected_after key changes epoch (Marks epoch answer ∷ later) ≡ answer
 
 -- An owner takes a change. Then its new key is what is expected of each epoch from its first new one on, up to the next change.
 abbrev pub WindowLaw : Type 0
 WindowLaw = (key : Option Octets) (changes : List Change) (change : Change) (epoch : ℕ) (later : List Event)
     → AreInOrder 0 changes → MayExpect key changes change.last_old (wanted change.key.now) change.first_new → change.first_new ≤ epoch
-    → IsKeptThrough key (with_change changes change) epoch later
+    → IsStoredThrough key (with_change changes change) epoch later
     → expected_after key (with_change changes change) epoch later ≡ wanted change.key.now
 
 -- What is expected of the epochs, one after another, are the first key and the keys of the changes, in their order.
