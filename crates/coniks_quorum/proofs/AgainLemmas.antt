@@ -6,9 +6,9 @@ use Rattle.std.proofs.lemmas.Bool.{cases_eq, eq-eqb, ne_eqb}
 use Rattle.std.proofs.lemmas.List.{drop-drop, drop-set-lt, get_or-drop, length-map, length-set, set-append_right}
 use Rattle.std.proofs.lemmas.Option.{same_Some, slice_get-map, slice_get_within}
 use Rattle.coniks_client.specs.Feeding.{IsSignedAgain}
-use Rattle.coniks_client.specs.Kept.{IsChain, entry_in, epoch_in}
+use Rattle.coniks_client.specs.StoredEntry.{IsChain, entry_in, epoch_in}
 use Rattle.coniks_client.specs.Steps.{with_latest}
-use Rattle.coniks_client.specs.declared.kept.Kept.{Kept}
+use Rattle.coniks_client.specs.declared.stored.StoredEntry.{StoredEntry}
 use Rattle.coniks_client.proofs.Lemmas.{again-chain, get-set_other}
 use Rattle.coniks_quorum.specs.Auditors.{Auditor}
 use Rattle.coniks_quorum.specs.Clients.{AgainLaw}
@@ -31,28 +31,28 @@ was_at epoch marks i mark at = by (slice_get marks i) (sym (slice_get-map (unmar
     by None is = absurd (cc)
     by (Some was) is = (was, refl, same_Some (unmarked epoch was) mark is)
 
-module _ (dropped kept : List Kept) (latest mine : Kept) (again : IsSignedAgain kept latest (entry_in mine)) where
-  abbrev pub all : List Kept
-  all = dropped ++ kept
+module _ (dropped stored : List StoredEntry) (latest mine : StoredEntry) (again : IsSignedAgain stored latest (entry_in mine)) where
+  abbrev pub all : List StoredEntry
+  all = dropped ++ stored
 
-  last : length all - 1 ≡ length dropped + (length kept - 1)
+  last : length all - 1 ≡ length dropped + (length stored - 1)
   last =
-      let size = length-append dropped kept in
-      let within = slice_get_within kept (length kept - 1) latest again.there in
+      let size = length-append dropped stored in
+      let within = slice_get_within stored (length stored - 1) latest again.there in
       omega arith
 
-  -- the latest of all is the latest kept one
+  -- the latest of all is the latest stored one
   pub again-all : IsSignedAgain all latest (entry_in mine)
   again-all = record {
-    there = ap (slice_get all) last ∙ get-append_right dropped kept (length kept - 1) ∙ again.there;
+    there = ap (slice_get all) last ∙ get-append_right dropped stored (length stored - 1) ∙ again.there;
     body = again.body;
     signature = again.signature;
   }
 
-  pub latest-all : with_latest all mine ≡ dropped ++ with_latest kept mine
+  pub latest-all : with_latest all mine ≡ dropped ++ with_latest stored mine
   latest-all =
-      let place : length all - 1 - length dropped ≡ length kept - 1 = omega (arith, last) in
-      set-append_right dropped kept (length dropped) (length all - 1) mine refl (omega (arith, last)) ∙ ap (λ (n : ℕ). dropped ++ set kept n mine) place
+      let place : length all - 1 - length dropped ≡ length stored - 1 = omega (arith, last) in
+      set-append_right dropped stored (length dropped) (length all - 1) mine refl (omega (arith, last)) ∙ ap (λ (n : ℕ). dropped ++ set stored n mine) place
 
   pub still : (hash : List ℕ → List ℕ) (auditor : Auditor) (mark : ℕ) → mark ≢ epoch_in latest → HasMark hash all auditor mark → HasMark hash (with_latest all mine) auditor mark
   still hash auditor mark apart has =
@@ -70,26 +70,26 @@ module _ (dropped kept : List Kept) (latest mine : Kept) (again : IsSignedAgain 
       }
 
   pub unmarked-right : (hash : List ℕ → List ℕ) (auditors : List Auditor) (marks : List ℕ) → AreMarks hash auditors all marks
-      → AreMarks hash auditors (dropped ++ with_latest kept mine) (map (unmarked (epoch_in latest)) marks)
+      → AreMarks hash auditors (dropped ++ with_latest stored mine) (map (unmarked (epoch_in latest)) marks)
   unmarked-right hash auditors marks are = record {
     size = length-map marks (unmarked (epoch_in latest)) ∙ are.size;
     each = λ i auditor mark at_a at_m above.
         let was = was_at (epoch_in latest) marks i mark at_m in
         let is = unmarked-is (epoch_in latest) was.0 mark was.2 above in
-        subst (λ (l : List Kept). HasMark hash l auditor mark) latest-all
+        subst (λ (l : List StoredEntry). HasMark hash l auditor mark) latest-all
         (still hash auditor mark (λ same. is.1 (is.0 ∙ same))
         (subst (λ (m : ℕ). HasMark hash all auditor m) is.0 (are.each i auditor was.0 at_a was.1 (omega (arith, is.0)))));
   }
 
 pub again : AgainLaw
-again hash auditors dropped kept marks latest mine is signed =
-    let within = slice_get_within kept (length kept - 1) latest signed.there in
-    let size = length-set kept (length kept - 1) mine in
+again hash auditors dropped stored marks latest mine is signed =
+    let within = slice_get_within stored (length stored - 1) latest signed.there in
+    let size = length-set stored (length stored - 1) mine in
     record {
       some = omega arith;
-      chain = subst (λ (l : List Kept). IsChain hash l) (latest-all dropped kept latest mine signed)
-          (again-chain (dropped ++ kept) latest mine (again-all dropped kept latest mine signed) hash is.chain);
-      marked = unmarked-right dropped kept latest mine signed hash auditors marks is.marked;
+      chain = subst (λ (l : List StoredEntry). IsChain hash l) (latest-all dropped stored latest mine signed)
+          (again-chain (dropped ++ stored) latest mine (again-all dropped stored latest mine signed) hash is.chain);
+      marked = unmarked-right dropped stored latest mine signed hash auditors marks is.marked;
     }
 
 -- one mark more is set to 0 if it is at the epoch

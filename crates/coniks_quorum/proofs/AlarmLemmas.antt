@@ -7,8 +7,8 @@ use Rattle.std.proofs.lemmas.Bool.{eqb-true, le-leb}
 use Rattle.std.proofs.lemmas.List.{length-map, take-append-drop, take_all, take_more, take_more_set}
 use Rattle.std.proofs.lemmas.List.Sums.{length-filter}
 use Rattle.std.proofs.lemmas.Option.{same_Some, slice_get_within}
-use Rattle.coniks_client.specs.Kept.{epoch_in}
-use Rattle.coniks_client.specs.declared.kept.Kept.{Kept}
+use Rattle.coniks_client.specs.StoredEntry.{epoch_in}
+use Rattle.coniks_client.specs.declared.stored.StoredEntry.{StoredEntry}
 use Rattle.coniks_quorum.specs.Alarms.{IsAppended, LogLaw, alarm_at, alarms_of, is_alarming}
 use Rattle.coniks_quorum.specs.declared.alarms.Alarm.{Alarm}
 use Rattle.coniks_quorum.proofs.ClientLemmas.{either}
@@ -16,11 +16,11 @@ use Rattle.coniks_quorum.proofs.ListLemmas.{get-append_left, get-append_right}
 
 module _ (since : ℕ) where
   -- the alarms of an epoch and of those after it
-  alarms-cons : (x : Kept) (xs : List Kept) (b : Bool) → is_alarming since x ≡ b → alarms_of since (x ∷ xs) ≡ (if b then alarm_at x ∷ alarms_of since xs else alarms_of since xs)
+  alarms-cons : (x : StoredEntry) (xs : List StoredEntry) (b : Bool) → is_alarming since x ≡ b → alarms_of since (x ∷ xs) ≡ (if b then alarm_at x ∷ alarms_of since xs else alarms_of since xs)
   alarms-cons x xs true is = ap (λ (c : Bool). map alarm_at (if c then x ∷ filter (is_alarming since) xs else filter (is_alarming since) xs)) is
   alarms-cons x xs false is = ap (λ (c : Bool). map alarm_at (if c then x ∷ filter (is_alarming since) xs else filter (is_alarming since) xs)) is
 
-  alarms-append : (xs ys : List Kept) → alarms_of since (xs ++ ys) ≡ alarms_of since xs ++ alarms_of since ys
+  alarms-append : (xs ys : List StoredEntry) → alarms_of since (xs ++ ys) ≡ alarms_of since xs ++ alarms_of since ys
   alarms-append [] ys = refl
   alarms-append (x ∷ xs) ys = by (is_alarming since x) refl (alarms-append xs ys)
     where
@@ -29,11 +29,11 @@ module _ (since : ℕ) where
       by false is rest = alarms-cons x (xs ++ ys) false is ∙ rest ∙ sym (ap (λ (l : List Alarm). l ++ alarms_of since ys) (alarms-cons x xs false is))
 
   -- an epoch that leaves an alarm has one
-  alarm-there : (xs : List Kept) (j : ℕ) (mine : Kept) → slice_get xs j ≡ Some mine → is_alarming since mine ≡ true → (i : ℕ) × (slice_get (alarms_of since xs) i ≡ Some (alarm_at mine))
+  alarm-there : (xs : List StoredEntry) (j : ℕ) (mine : StoredEntry) → slice_get xs j ≡ Some mine → is_alarming since mine ≡ true → (i : ℕ) × (slice_get (alarms_of since xs) i ≡ Some (alarm_at mine))
   alarm-there [] j mine at is = absurd (cc)
   alarm-there (x ∷ xs) zero mine at is =
       let here : is_alarming since x ≡ true = ap (is_alarming since) (same_Some x mine at) ∙ is in
-      (0, ap (λ (l : List Alarm). slice_get l 0) (alarms-cons x xs true here) ∙ ap (λ (m : Kept). Some (alarm_at m)) (same_Some x mine at))
+      (0, ap (λ (l : List Alarm). slice_get l 0) (alarms-cons x xs true here) ∙ ap (λ (m : StoredEntry). Some (alarm_at m)) (same_Some x mine at))
   alarm-there (x ∷ xs) (suc j) mine at is = by (is_alarming since x) refl (alarm-there xs j mine at is)
     where
       by : (b : Bool) → is_alarming since x ≡ b → (i : ℕ) × (slice_get (alarms_of since xs) i ≡ Some (alarm_at mine)) → (i : ℕ) × (slice_get (alarms_of since (x ∷ xs)) i ≡ Some (alarm_at mine))
@@ -41,11 +41,11 @@ module _ (since : ℕ) where
       by false eq found = (found.0, ap (λ (l : List Alarm). slice_get l found.0) (alarms-cons x xs false eq) ∙ found.1)
 
 -- the number of the alarms
-pub alarms-count : (since : ℕ) (xs : List Kept) → count_by (is_alarming since) xs ≡ length (alarms_of since xs)
+pub alarms-count : (since : ℕ) (xs : List StoredEntry) → count_by (is_alarming since) xs ≡ length (alarms_of since xs)
 alarms-count since xs = sym (length-map (filter (is_alarming since) xs) alarm_at ∙ length-filter (is_alarming since) xs)
 
 -- a watched epoch is the same, or leaves an alarm
-same_or_alarming : (since : ℕ) (mine : Kept) → since ≤ epoch_in mine → (mine.seen ≡ 1) ⊎ (is_alarming since mine ≡ true)
+same_or_alarming : (since : ℕ) (mine : StoredEntry) → since ≤ epoch_in mine → (mine.seen ≡ 1) ⊎ (is_alarming since mine ≡ true)
 same_or_alarming since mine le = by (mine.seen == 1) refl
   where
     by : (b : Bool) → (mine.seen == 1) ≡ b → (mine.seen ≡ 1) ⊎ (is_alarming since mine ≡ true)
@@ -90,7 +90,7 @@ appended-one old mid count more end a within is =
       rest = drop-set-lt (end + 1) mid end a (omega arith) ∙ sym (drop-drop 1 end mid) ∙ ap (drop 1) is.rest ∙ drop-drop 1 end old;
     }
 
-module _ (since : ℕ) (dropped : List Kept) (i : ℕ) (d : Kept) (within : i < length dropped) where
+module _ (since : ℕ) (dropped : List StoredEntry) (i : ℕ) (d : StoredEntry) (within : i < length dropped) where
   more-alarms : alarms_of since (take (i + 1) dropped) ≡ alarms_of since (take i dropped) ++ alarms_of since (get_or dropped i d ∷ [])
   more-alarms = ap (alarms_of since) (take_more dropped i d within) ∙ alarms-append since (take i dropped) (get_or dropped i d ∷ [])
 
@@ -125,13 +125,13 @@ module _ (since : ℕ) (dropped : List Kept) (i : ℕ) (d : Kept) (within : i < 
       ap length (more-alarms ∙ ap (λ (l : List Alarm). alarms_of since (take i dropped) ++ l) (alarms-cons since (get_or dropped i d) [] true is))
       ∙ length-append (alarms_of since (take i dropped)) (alarm_at (get_or dropped i d) ∷ []) in
       let all : length (alarms_of since dropped) ≡ length (alarms_of since (take (i + 1) dropped) ++ alarms_of since (drop (i + 1) dropped)) =
-      ap (λ (l : List Kept). length (alarms_of since l)) (sym (take-append-drop (i + 1) dropped)) ∙ ap length (alarms-append since (take (i + 1) dropped) (drop (i + 1) dropped)) in
+      ap (λ (l : List StoredEntry). length (alarms_of since l)) (sym (take-append-drop (i + 1) dropped)) ∙ ap length (alarms-append since (take (i + 1) dropped) (drop (i + 1) dropped)) in
       let parts = length-append (alarms_of since (take (i + 1) dropped)) (alarms_of since (drop (i + 1) dropped)) in
       let at = before.total in
       let size = before.size in
       omega arith
 
 -- all of them
-pub appended-all : (since : ℕ) (dropped : List Kept) (i : ℕ) (old new : List Alarm) (count end : ℕ) → length dropped ≤ i
+pub appended-all : (since : ℕ) (dropped : List StoredEntry) (i : ℕ) (old new : List Alarm) (count end : ℕ) → length dropped ≤ i
     → IsAppended old new count (alarms_of since (take i dropped)) end → IsAppended old new count (alarms_of since dropped) end
-appended-all since dropped i old new count end all is = subst (λ (l : List Kept). IsAppended old new count (alarms_of since l) end) (take_all i dropped all) is
+appended-all since dropped i old new count end all is = subst (λ (l : List StoredEntry). IsAppended old new count (alarms_of since l) end) (take_all i dropped all) is

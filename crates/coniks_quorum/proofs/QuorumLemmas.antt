@@ -14,10 +14,10 @@ use Rattle.coniks_chain.specs.declared.entry.Entry.{Entry}
 use Rattle.coniks_chain.proofs.Lemmas.{row}
 use Rattle.coniks_client.specs.Comparing.{HasHead}
 use Rattle.coniks_client.specs.Changes.{expected}
-use Rattle.coniks_client.specs.Kept.{entries_in, entry_in, epoch_in, verified_before}
+use Rattle.coniks_client.specs.StoredEntry.{entries_in, entry_in, epoch_in, verified_before}
 use Rattle.coniks_client.specs.Owner.{IsShown}
-use Rattle.coniks_client.specs.declared.kept.Kept.{Kept}
-use Rattle.coniks_client.proofs.Lemmas.{increasing, walk, ends, linked_of, kept_of, entry_at, one_entry}
+use Rattle.coniks_client.specs.declared.stored.StoredEntry.{StoredEntry}
+use Rattle.coniks_client.proofs.Lemmas.{increasing, walk, ends, linked_of, stored_of, entry_at, one_entry}
 use Rattle.coniks_quorum.specs.Auditors.{Auditor, HasEntry, IsGood, WasCosigned}
 use Rattle.coniks_quorum.specs.Marks.{AreMarks, HasMark, IsRaised}
 use Rattle.coniks_quorum.specs.Laws.{AgreeLaw, Forks, GrowLaw, LeftLaw, OwnerQuorumLaw, PlaceLaw, QuorumLaw, StandsOn, WatcherQuorumLaw}
@@ -82,12 +82,12 @@ module _ (hash : List ℕ → List ℕ) where
       (λ (fork : (e : Entry) × (g : Entry) × IsFork hash tx ty e g). inr (suc x.place, suc y.place, fork.0, fork.1, fork.2))
       reached
 
-  -- a kept epoch that has a head is an entry that has it
-  entry_of : (kept : List Kept) (k : ℕ) (mine : Kept) (head : Head) → slice_get kept k ≡ Some mine → HasHead hash mine head → HasEntry hash (entries_in kept) head
-  entry_of kept k mine head at has = record { place = k; entry = entry_in mine; there = entry_at kept k mine at; epoch = has.epoch; link = has.link }
+  -- a stored epoch that has a head is an entry that has it
+  entry_of : (stored : List StoredEntry) (k : ℕ) (mine : StoredEntry) (head : Head) → slice_get stored k ≡ Some mine → HasHead hash mine head → HasEntry hash (entries_in stored) head
+  entry_of stored k mine head at has = record { place = k; entry = entry_in mine; there = entry_at stored k mine at; epoch = has.epoch; link = has.link }
 
 -- what a mark of an honest auditor says
-stands : (hash : List ℕ → List ℕ) (auditor : Auditor) (accepted : List Kept) (mark e : ℕ) → IsGood hash auditor → HasMark hash accepted auditor mark → e ≤ mark
+stands : (hash : List ℕ → List ℕ) (auditor : Auditor) (accepted : List StoredEntry) (mark e : ℕ) → IsGood hash auditor → HasMark hash accepted auditor mark → e ≤ mark
     → StandsOn hash auditor accepted e
 stands hash auditor accepted mark e good has le = let epoch = has.epoch in record {
   head = has.head;
@@ -141,13 +141,13 @@ agree hash n f k l auditors alice bob of_a of_b to_a to_b at his enough are a b 
     ⊎_elim
     (λ (found : (p : ℕ) × (slice_get auditor.entries p ≡ Some (entry_in his))).
     let low : (e : Entry) → slice_get (entries_in alice) 0 ≡ Some e → (e.body.t ≤ epoch_in his) ⊎ (e.body.t_prev < epoch_in his) = λ e at_e.
-    let first = kept_of alice 0 e at_e in
+    let first = stored_of alice 0 e at_e in
     let le = begins first.0 first.1 in
     let epoch : epoch_in first.0 ≡ e.body.t = ap (λ (x : Entry). x.body.t) first.2 in
     inl (omega arith) in
     ⊎_elim
     (λ (hers : (p : ℕ) × (slice_get (entries_in alice) p ≡ Some (entry_in his))).
-    let mine = kept_of alice hers.0 (entry_in his) hers.1 in
+    let mine = stored_of alice hers.0 (entry_in his) hers.1 in
     inl (hers.0, mine.0, mine.1, mine.2))
     (λ fork. inr (both.place, auditor, both.there, both.honest, inl fork))
     (reach hash (entries_in alice) auditor.entries (linked_of hash alice chain_a) (good-linked hash auditor.entries both.good.chain)
@@ -158,9 +158,9 @@ agree hash n f k l auditors alice bob of_a of_b to_a to_b at his enough are a b 
 
 pub owner : OwnerQuorumLaw
 owner hash n f k l auditors alice bob of_a of_b to_a to_b scheme name wanted first last at his answer enough are a b owns upto chain_b there le_b above from to shown =
-    let begins : (mine : Kept) → slice_get alice 0 ≡ Some mine → epoch_in mine ≤ epoch_in his = λ mine at_m. let le = owns.begins mine at_m in omega arith in
+    let begins : (mine : StoredEntry) → slice_get alice 0 ≡ Some mine → epoch_in mine ≤ epoch_in his = λ mine at_m. let le = owns.begins mine at_m in omega arith in
     ⊎_elim
-    (λ (found : (p : ℕ) × (hers : Kept) × (slice_get alice p ≡ Some hers) × (entry_in hers ≡ entry_in his)).
+    (λ (found : (p : ℕ) × (hers : StoredEntry) × (slice_get alice p ≡ Some hers) × (entry_in hers ≡ entry_in his)).
     let epoch : epoch_in found.1 ≡ epoch_in his = ap (λ (x : Entry). x.body.t) found.3 in
     let same = owns.same found.0 found.1 found.2 (omega arith) (omega arith) in
     let backed = owns.backed found.0 found.1 found.2 same in
@@ -175,8 +175,8 @@ watcher hash n f k l auditors alice bob of_a of_b to_a to_b scheme name key chan
     owner hash n f k l auditors alice bob of_a of_b to_a to_b scheme name (expected key changes) first last at his answer enough are a b
     (record { chain = owns.chain; begins = owns.begins; same = owns.same; backed = owns.watched.backed }) upto chain_b there le_b above from to shown
 
--- a mark of some kept epochs is one of more
-pub more : (hash : List ℕ → List ℕ) (few all : List Kept) → ((k : ℕ) (x : Kept) → slice_get few k ≡ Some x → (j : ℕ) × (slice_get all j ≡ Some x))
+-- a mark of some stored epochs is one of more
+pub more : (hash : List ℕ → List ℕ) (few all : List StoredEntry) → ((k : ℕ) (x : StoredEntry) → slice_get few k ≡ Some x → (j : ℕ) × (slice_get all j ≡ Some x))
     → (auditor : Auditor) (mark : ℕ) → HasMark hash few auditor mark → HasMark hash all auditor mark
 more hash few all within auditor mark has =
     let there = within has.place has.mine has.there in
@@ -190,18 +190,18 @@ grow hash auditors accepted later marks are = record {
 }
 
 pub left : LeftLaw
-left hash auditors dropped kept marks are = record {
+left hash auditors dropped stored marks are = record {
   size = are.size;
-  each = λ i auditor mark at_a at_m above. more hash kept (dropped ++ kept) (λ k x at. (length dropped + k, get-append_right dropped kept k ∙ at)) auditor mark
+  each = λ i auditor mark at_a at_m above. more hash stored (dropped ++ stored) (λ k x at. (length dropped + k, get-append_right dropped stored k ∙ at)) auditor mark
       (are.each i auditor mark at_a at_m above);
 }
 
 -- an equal head that the auditor cosigned is a right mark
-pub raised : (hash : List ℕ → List ℕ) (auditors : List Auditor) (dropped kept : List Kept) (old new : List ℕ) (at : ℕ) (head : Head) (found : ℕ)
+pub raised : (hash : List ℕ → List ℕ) (auditors : List Auditor) (dropped stored : List StoredEntry) (old new : List ℕ) (at : ℕ) (head : Head) (found : ℕ)
     → at < length old → IsRaised old new at head.epoch
-    → (mine : Kept) × (slice_get kept found ≡ Some mine) × HasHead hash mine head
-    → WasCosigned auditors at head → AreMarks hash auditors (dropped ++ kept) old → AreMarks hash auditors (dropped ++ kept) new
-raised hash auditors dropped kept old new at head found within is equal cosigned are = record {
+    → (mine : StoredEntry) × (slice_get stored found ≡ Some mine) × HasHead hash mine head
+    → WasCosigned auditors at head → AreMarks hash auditors (dropped ++ stored) old → AreMarks hash auditors (dropped ++ stored) new
+raised hash auditors dropped stored old new at head found within is equal cosigned are = record {
   size = is.size ∙ are.size;
   each = λ i auditor mark at_a at_m above. ⊎_elim
       (λ (here : i ≡ at).
@@ -216,7 +216,7 @@ raised hash auditors dropped kept old new at head found within is equal cosigned
         cosigned = signed;
         place = length dropped + found;
         mine = equal.0;
-        there = get-append_right dropped kept found ∙ equal.1;
+        there = get-append_right dropped stored found ∙ equal.1;
         has = equal.2;
         epoch = omega arith;
       })

@@ -1,13 +1,13 @@
--- The bytes of numbers, keys, changes, kept epochs, alarms and marks, and what they are read as.
+-- The bytes of numbers, keys, changes, stored epochs, alarms and marks, and what they are read as.
 use Rattle.std.proofs.Common.{◌≡◌, ◌<◌, ℕ, suc, ◌+◌, ◌^◌, List, [], ◌∷◌, ◌++◌, length, take, drop, get_or, refl, sym, ap, subst, ◌∙◌, arith, append_assoc}
 use Rattle.std.specs.Int.{w32, w64, to_be_bytes, from_be_bytes}
 use Rattle.std.proofs.lemmas.Nat.{be_bytes_4, be_bytes_8, from_be_bytes-to_be_bytes_4, from_be_bytes-to_be_bytes_8}
 use Rattle.std.proofs.lemmas.List.{drop_all, get_or-drop, drop_more, length-append, length-drop, length-take-le, take-append-drop}
-use Rattle.coniks_client.specs.declared.kept.Kept.{Kept}
+use Rattle.coniks_client.specs.declared.stored.StoredEntry.{StoredEntry}
 use Rattle.coniks_quorum.specs.declared.alarms.Alarm.{Alarm}
-use Rattle.coniks_quorum.specs.StateForms.{IsAlarm, IsKept, IsMark}
+use Rattle.coniks_quorum.specs.StateForms.{IsAlarm, IsStored, IsMark}
 use Rattle.coniks_quorum.specs.StateReading.{BeginsWithChange}
-use Rattle.coniks_quorum.specs.Saved.{SavedChange, alarm_bytes, alarm_from, kept_bytes, kept_from, key_bytes, mark_bytes, mark_from}
+use Rattle.coniks_quorum.specs.Saved.{SavedChange, alarm_bytes, alarm_from, stored_bytes, stored_from, key_bytes, mark_bytes, mark_from}
 use Rattle.coniks_quorum.proofs.StateCodeLemmas.{AreOctets, IsCode, same_tail, split_same, take-small}
 
 -- ---- cutting
@@ -61,16 +61,16 @@ change_same bytes a b rest rest' begins begins' =
       keys.1,
     )
 
--- ---- kept epochs, alarms and marks
+-- ---- stored epochs, alarms and marks
 
 last_byte : (d : List ℕ) (n : ℕ) → length d ≡ suc n → drop n d ≡ get_or d n 0 ∷ []
 last_byte d n size =
     let some : n < length d = omega arith in
     drop_more d n 0 some ∙ ap (λ ys. get_or d n 0 ∷ ys) (drop_all (n + 1) d (omega arith))
 
--- 218 bytes are those of a kept epoch
-kept_bytes-from : (bytes : List ℕ) → length bytes ≡ 218 → kept_bytes (kept_from bytes) ≡ bytes
-kept_bytes-from bytes size =
+-- 218 bytes are those of a stored epoch
+stored_bytes-from : (bytes : List ℕ) → length bytes ≡ 218 → stored_bytes (stored_from bytes) ≡ bytes
+stored_bytes-from bytes size =
     let d = drop 209 bytes in
     let nine : length d ≡ 9 = omega (arith, length-drop 209 bytes) in
     let last : get_or bytes 217 0 ≡ get_or d 8 0 = sym (get_or-drop 209 bytes 8 0) in
@@ -79,19 +79,19 @@ kept_bytes-from bytes size =
     ∙ ap (λ ys. take 209 bytes ++ (take 8 d ++ ys)) (sym (last_byte d 8 nine))
     ∙ ap (λ ys. take 209 bytes ++ ys) (take-append-drop 8 d) ∙ take-append-drop 209 bytes
 
-IsKept-from : (bytes : List ℕ) → length bytes ≡ 218 → IsKept (kept_from bytes)
-IsKept-from bytes size = record {
+IsStored-from : (bytes : List ℕ) → length bytes ≡ 218 → IsStored (stored_from bytes)
+IsStored-from bytes size = record {
   entry = length-take-le 209 bytes (omega arith);
   time = length-take-le 8 (drop 209 bytes) (omega (arith, length-drop 209 bytes));
 }
 
-length-kept : (mine : Kept) → IsKept mine → length (kept_bytes mine) ≡ 218
-length-kept mine is =
+length-stored : (mine : StoredEntry) → IsStored mine → length (stored_bytes mine) ≡ 218
+length-stored mine is =
     let one = length-append (mine.entry ++ mine.first_seen) (mine.seen ∷ []) in let two = length-append mine.entry mine.first_seen in
     let entry = is.entry in let time = is.time in omega arith
 
-kept_one : (a b : Kept) → IsKept a → IsKept b → kept_bytes a ≡ kept_bytes b → a ≡ b
-kept_one a b is_a is_b same =
+stored_one : (a b : StoredEntry) → IsStored a → IsStored b → stored_bytes a ≡ stored_bytes b → a ≡ b
+stored_one a b is_a is_b same =
     let entries = split_same a.entry b.entry (a.first_seen ++ a.seen ∷ []) (b.first_seen ++ b.seen ∷ []) (is_a.entry ∙ sym is_b.entry)
     (sym (append_assoc a.entry a.first_seen (a.seen ∷ [])) ∙ same ∙ append_assoc b.entry b.first_seen (b.seen ∷ [])) in
     let times = split_same a.first_seen b.first_seen (a.seen ∷ []) (b.seen ∷ []) (is_a.time ∙ sym is_b.time) entries.1 in
@@ -99,8 +99,8 @@ kept_one a b is_a is_b same =
     ap (λ x. record { entry = x; first_seen = a.first_seen; seen = a.seen }) entries.0 ∙ ap (λ x. record { entry = b.entry; first_seen = x; seen = a.seen }) times.0
     ∙ ap (λ x. record { entry = b.entry; first_seen = b.first_seen; seen = x }) seen.0
 
-pub kept_code : IsCode kept_bytes kept_from IsKept 218
-kept_code = record { long = length-kept; back = λ bytes size small. kept_bytes-from bytes size; is = λ bytes size small. IsKept-from bytes size; same = kept_one }
+pub stored_code : IsCode stored_bytes stored_from IsStored 218
+stored_code = record { long = length-stored; back = λ bytes size small. stored_bytes-from bytes size; is = λ bytes size small. IsStored-from bytes size; same = stored_one }
 
 -- a number that is read of bytes
 number-fits : (bytes : List ℕ) → AreOctets bytes → from_be_bytes w64 bytes < 2 ^ 64

@@ -4,12 +4,12 @@ use Rattle.std.specs.Int.{w32, to_be_bytes}
 use Rattle.std.specs.List.{All, flat_map}
 use Rattle.std.specs.Simd.{first_chunks}
 use Rattle.std.proofs.lemmas.List.{length-append, length-map, take_at}
-use Rattle.coniks_client.specs.declared.kept.Kept.{Kept}
+use Rattle.coniks_client.specs.declared.stored.StoredEntry.{StoredEntry}
 use Rattle.coniks_quorum.specs.declared.alarms.Alarm.{Alarm}
-use Rattle.coniks_quorum.specs.StateForms.{IsAlarm, IsKept, IsMark}
+use Rattle.coniks_quorum.specs.StateForms.{IsAlarm, IsStored, IsMark}
 use Rattle.coniks_quorum.specs.StateReading.{BeginsWithCount, BeginsWithFront, BeginsWithParts}
-use Rattle.coniks_quorum.specs.Saved.{alarm_bytes, alarm_from, counted_bytes, front_bytes, kept_bytes, kept_from, mark_bytes, mark_from}
-use Rattle.coniks_quorum.proofs.StateByteLemmas.{alarm_code, count_same, kept_code, mark_code}
+use Rattle.coniks_quorum.specs.Saved.{alarm_bytes, alarm_from, counted_bytes, front_bytes, stored_bytes, stored_from, mark_bytes, mark_from}
+use Rattle.coniks_quorum.proofs.StateByteLemmas.{alarm_code, count_same, stored_code, mark_code}
 use Rattle.coniks_quorum.proofs.StateCodeLemmas.{AreOctets, IsCode, all_same, chunks-bytes, chunks-sized, drop-small, length-all, length-first_chunks, split_same, take-small}
 
 module _ {X : Type 0} (one_bytes : X → List ℕ) (one_from : List ℕ → X) (IsPart : X → Type 0) (one : ℕ) (code : IsCode one_bytes one_from IsPart one) where
@@ -55,14 +55,14 @@ part-small one bytes n part after small begins =
 -- ---- all parts before the watch
 
 -- the parts from the right
-front_right : (kept : List Kept) (alarms : List Alarm) (trust marks rest : List ℕ) → front_bytes kept alarms trust marks ++ rest
-    ≡ counted_bytes kept_bytes kept ++ (counted_bytes alarm_bytes alarms ++ (trust ++ (counted_bytes mark_bytes marks ++ rest)))
-front_right kept alarms trust marks rest =
-    let k = counted_bytes kept_bytes kept in let a = counted_bytes alarm_bytes alarms in let m = counted_bytes mark_bytes marks in
+front_right : (stored : List StoredEntry) (alarms : List Alarm) (trust marks rest : List ℕ) → front_bytes stored alarms trust marks ++ rest
+    ≡ counted_bytes stored_bytes stored ++ (counted_bytes alarm_bytes alarms ++ (trust ++ (counted_bytes mark_bytes marks ++ rest)))
+front_right stored alarms trust marks rest =
+    let k = counted_bytes stored_bytes stored in let a = counted_bytes alarm_bytes alarms in let m = counted_bytes mark_bytes marks in
     append_assoc (k ++ a ++ trust) m rest ∙ append_assoc (k ++ a) trust (m ++ rest) ∙ append_assoc k a (trust ++ (m ++ rest))
 
-abbrev pub AreKept : List ℕ → List Kept → List ℕ → Type 0
-AreKept bytes kept rest = BeginsWithParts kept_bytes IsKept bytes kept rest
+abbrev pub AreStored : List ℕ → List StoredEntry → List ℕ → Type 0
+AreStored bytes stored rest = BeginsWithParts stored_bytes IsStored bytes stored rest
 
 abbrev pub AreAlarms : List ℕ → List Alarm → List ℕ → Type 0
 AreAlarms bytes alarms rest = BeginsWithParts alarm_bytes IsAlarm bytes alarms rest
@@ -70,23 +70,23 @@ AreAlarms bytes alarms rest = BeginsWithParts alarm_bytes IsAlarm bytes alarms r
 abbrev pub AreMarks : List ℕ → List ℕ → List ℕ → Type 0
 AreMarks bytes marks rest = BeginsWithParts mark_bytes IsMark bytes marks rest
 
--- what follows the alarms, and what follows the kept epochs
+-- what follows the alarms, and what follows the stored epochs
 abbrev after_alarms : List ℕ → List ℕ → List ℕ → List ℕ
 after_alarms trust marks rest = trust ++ (counted_bytes mark_bytes marks ++ rest)
 
-abbrev after_kept : List Alarm → List ℕ → List ℕ → List ℕ → List ℕ
-after_kept alarms trust marks rest = counted_bytes alarm_bytes alarms ++ after_alarms trust marks rest
+abbrev after_stored : List Alarm → List ℕ → List ℕ → List ℕ → List ℕ
+after_stored alarms trust marks rest = counted_bytes alarm_bytes alarms ++ after_alarms trust marks rest
 
-module _ (bytes : List ℕ) (kept : List Kept) (alarms : List Alarm) (trust marks rest : List ℕ) (begins : BeginsWithFront bytes kept alarms trust marks rest) where
-  pub front_kept : AreKept bytes kept (after_kept alarms trust marks rest)
-  front_kept = record { counted = begins.kept_counted; same = begins.same ∙ front_right kept alarms trust marks rest }
+module _ (bytes : List ℕ) (stored : List StoredEntry) (alarms : List Alarm) (trust marks rest : List ℕ) (begins : BeginsWithFront bytes stored alarms trust marks rest) where
+  pub front_stored : AreStored bytes stored (after_stored alarms trust marks rest)
+  front_stored = record { counted = begins.stored_counted; same = begins.same ∙ front_right stored alarms trust marks rest }
 
-  module _ (k : List Kept) (r : List ℕ) (are_kept : AreKept bytes k r) where
-    first_kept : (k ≡ kept) × (r ≡ after_kept alarms trust marks rest)
-    first_kept = parts_same kept_bytes kept_from IsKept 218 kept_code bytes k kept r (after_kept alarms trust marks rest) are_kept front_kept
+  module _ (k : List StoredEntry) (r : List ℕ) (are_stored : AreStored bytes k r) where
+    first_stored : (k ≡ stored) × (r ≡ after_stored alarms trust marks rest)
+    first_stored = parts_same stored_bytes stored_from IsStored 218 stored_code bytes k stored r (after_stored alarms trust marks rest) are_stored front_stored
 
     pub front_alarms : AreAlarms r alarms (after_alarms trust marks rest)
-    front_alarms = record { counted = begins.alarms_counted; same = first_kept.1 }
+    front_alarms = record { counted = begins.alarms_counted; same = first_stored.1 }
 
     module _ (a : List Alarm) (s : List ℕ) (are_alarms : AreAlarms r a s) where
       first_alarms : (a ≡ alarms) × (s ≡ after_alarms trust marks rest)
@@ -104,16 +104,16 @@ module _ (bytes : List ℕ) (kept : List Kept) (alarms : List Alarm) (trust mark
         pub front_marks : AreMarks u marks rest
         front_marks = record { counted = begins.marks_counted; same = first_trust.1 }
 
-        pub front_ways : (m v : List ℕ) → AreMarks u m v → (k ≡ kept) × (a ≡ alarms) × (t ≡ trust) × (m ≡ marks) × (v ≡ rest)
+        pub front_ways : (m v : List ℕ) → AreMarks u m v → (k ≡ stored) × (a ≡ alarms) × (t ≡ trust) × (m ≡ marks) × (v ≡ rest)
         front_ways m v are_marks =
             let last = parts_same mark_bytes mark_from IsMark 8 mark_code u m marks v rest are_marks front_marks in
-            (first_kept.0, first_alarms.0, first_trust.0, last.0, last.1)
+            (first_stored.0, first_alarms.0, first_trust.0, last.0, last.1)
 
 -- they are read in one way
-pub front_same : (bytes : List ℕ) (k l : List Kept) (a b : List Alarm) (t u m n r s : List ℕ) → BeginsWithFront bytes k a t m r → BeginsWithFront bytes l b u n s
+pub front_same : (bytes : List ℕ) (k l : List StoredEntry) (a b : List Alarm) (t u m n r s : List ℕ) → BeginsWithFront bytes k a t m r → BeginsWithFront bytes l b u n s
     → (k ≡ l) × (a ≡ b) × (t ≡ u) × (m ≡ n) × (r ≡ s)
 front_same bytes k l a b t u m n r s begins begins' =
-    front_ways bytes l b u n s begins' k (after_kept a t m r) (front_kept bytes k a t m r begins) a (after_alarms t m r)
+    front_ways bytes l b u n s begins' k (after_stored a t m r) (front_stored bytes k a t m r begins) a (after_alarms t m r)
     (record { counted = begins.alarms_counted; same = refl }) t (counted_bytes mark_bytes m ++ r) refl begins.trust_size m r
     (record { counted = begins.marks_counted; same = refl })
 
@@ -122,19 +122,19 @@ flat-length : {X : Type 0} (f : X → List ℕ) (one : ℕ) → ((x : X) → len
 flat-length f one size [] = sym (zero-mul one)
 flat-length f one size (x ∷ xs) = omega (arith, length-append (f x) (flat_map f xs), size x, flat-length f one size xs, suc-mul (length xs) one)
 
-pub length-front : (kept : List Kept) (alarms : List Alarm) (trust marks : List ℕ) → All IsKept kept → length trust ≡ 32
-    → length (front_bytes kept alarms trust marks) ≡ length kept * 218 + length alarms * 9 + length marks * 8 + 44
-length-front kept alarms trust marks sized size =
-    let k = counted_bytes kept_bytes kept in let a = counted_bytes alarm_bytes alarms in let m = counted_bytes mark_bytes marks in
+pub length-front : (stored : List StoredEntry) (alarms : List Alarm) (trust marks : List ℕ) → All IsStored stored → length trust ≡ 32
+    → length (front_bytes stored alarms trust marks) ≡ length stored * 218 + length alarms * 9 + length marks * 8 + 44
+length-front stored alarms trust marks sized size =
+    let k = counted_bytes stored_bytes stored in let a = counted_bytes alarm_bytes alarms in let m = counted_bytes mark_bytes marks in
     let one = length-append (k ++ a ++ trust) m in let two = length-append (k ++ a) trust in let three = length-append k a in
-    let of_kept = length-all kept_bytes kept_from IsKept 218 kept_code kept sized in
+    let of_stored = length-all stored_bytes stored_from IsStored 218 stored_code stored sized in
     let of_alarms = flat-length alarm_bytes 9 (λ x. refl) alarms in
     let of_marks = flat-length mark_bytes 8 (λ x. refl) marks in
     omega arith
 
 -- it is their sum
-pub sum-front : (kept : List Kept) (alarms : List Alarm) (trust marks : List ℕ) (k a m two all : ℕ) → All IsKept kept → length trust ≡ 32
-    → k ≡ length kept * 218 → a ≡ length alarms * 9 → m ≡ length marks * 8 → two ≡ k + a → all ≡ two + m
-    → all + 44 ≡ length (front_bytes kept alarms trust marks)
-sum-front kept alarms trust marks k a m two all sized size k_is a_is m_is two_is all_is =
-    let whole = length-front kept alarms trust marks sized size in omega (arith, k_is, a_is, m_is, two_is, all_is, whole)
+pub sum-front : (stored : List StoredEntry) (alarms : List Alarm) (trust marks : List ℕ) (k a m two all : ℕ) → All IsStored stored → length trust ≡ 32
+    → k ≡ length stored * 218 → a ≡ length alarms * 9 → m ≡ length marks * 8 → two ≡ k + a → all ≡ two + m
+    → all + 44 ≡ length (front_bytes stored alarms trust marks)
+sum-front stored alarms trust marks k a m two all sized size k_is a_is m_is two_is all_is =
+    let whole = length-front stored alarms trust marks sized size in omega (arith, k_is, a_is, m_is, two_is, all_is, whole)

@@ -6,9 +6,9 @@ use Rattle.std.proofs.lemmas.List.Elements.{All-head, All-tail}
 use Rattle.std.proofs.lemmas.Option.{slice_get-get_or, slice_get_within, same_Some}
 use Rattle.coniks_client.specs.Changes.{AreInOrder, IsDecided, wanted}
 use Rattle.coniks_client.specs.Honest.{AreOther}
-use Rattle.coniks_client.specs.Kept.{epoch_in}
+use Rattle.coniks_client.specs.StoredEntry.{epoch_in}
 use Rattle.coniks_client.specs.declared.changes.Change.{Change}
-use Rattle.coniks_client.specs.declared.kept.Kept.{Kept}
+use Rattle.coniks_client.specs.declared.stored.StoredEntry.{StoredEntry}
 use Rattle.coniks_client.specs.declared.watching.Watch.{Watch}
 use Rattle.coniks_quorum.specs.StateForms.{AreDistinct, AreFormed, AreOrdered, IsClear, IsClearAt, IsFormed, IsFormedWatch, IsOutside}
 use Rattle.coniks_quorum.specs.StateLaws.{BackLaw, FormLaw, PartsLaw, WatchedLaw}
@@ -40,22 +40,22 @@ decided epoch (change ∷ later) outside =
     let rest = decided epoch later (All-tail (IsOutside epoch) (saved_change change) (map saved_change later) outside) in
     ⊎_elim (λ old. inl old) (λ new. inr (new, rest)) here
 
-clear_at : (kept : List Kept) (k : ℕ) (mine : Kept) → slice_get kept k ≡ Some mine → mine.seen ≡ 1 → (changes : List SavedChange) → All (IsClear kept) changes
+clear_at : (stored : List StoredEntry) (k : ℕ) (mine : StoredEntry) → slice_get stored k ≡ Some mine → mine.seen ≡ 1 → (changes : List SavedChange) → All (IsClear stored) changes
     → All (IsOutside (epoch_in mine)) changes
-clear_at kept k mine at same changes clear = λ j d below.
-    let within = slice_get_within kept k mine at in
-    let here : get_or kept k mine ≡ mine = same_Some (get_or kept k mine) mine (sym (slice_get-get_or kept k mine within) ∙ at) in
+clear_at stored k mine at same changes clear = λ j d below.
+    let within = slice_get_within stored k mine at in
+    let here : get_or stored k mine ≡ mine = same_Some (get_or stored k mine) mine (sym (slice_get-get_or stored k mine within) ∙ at) in
     subst (λ x. IsClearAt (get_or changes j d) x) here (clear j d below k mine within) same
 
-are_formed : (client : Client) (watch : Watch) → client.watch ≡ Some watch → IsFormed (saved_state client) → AreFormed client.kept.now watch.key.now (map saved_change client.changes.now)
-are_formed client watch is formed = subst (λ w. IsFormedWatch client.kept.now (option_map (saved_watch client.changes.now) w)) is formed.changes
+are_formed : (client : Client) (watch : Watch) → client.watch ≡ Some watch → IsFormed (saved_state client) → AreFormed client.stored.now watch.key.now (map saved_change client.changes.now)
+are_formed client watch is formed = subst (λ w. IsFormedWatch client.stored.now (option_map (saved_watch client.changes.now) w)) is formed.changes
 
 pub form_law : FormLaw
 form_law client watch is formed =
     let are = are_formed client watch is formed in (
       in_order 0 client.changes.now are.order,
       are_other watch.key.now client.changes.now are.distinct,
-      λ k mine at same. decided (epoch_in mine) client.changes.now (clear_at client.kept.now k mine at same (map saved_change client.changes.now) are.clear),
+      λ k mine at same. decided (epoch_in mine) client.changes.now (clear_at client.stored.now k mine at same (map saved_change client.changes.now) are.clear),
     )
 
 pub watched_law : WatchedLaw
@@ -80,14 +80,14 @@ watch_is (Some w) (Some s) mine changes says is are =
 pub parts_law : PartsLaw
 parts_law client state saved says made =
     let watch = option_map (saved_watch client.changes.now) client.watch in
-    ap (λ x. record { policy = x; kept = client.kept.now; alarms = client.alarms.now; trust = client.trust.now; marks = client.marks.now; watch = watch }) made.policy
-    ∙ ap (λ x. record { policy = saved.policy; kept = x; alarms = client.alarms.now; trust = client.trust.now; marks = client.marks.now; watch = watch })
-    (made.kept ∙ says.kept)
-    ∙ ap (λ x. record { policy = saved.policy; kept = saved.kept; alarms = x; trust = client.trust.now; marks = client.marks.now; watch = watch })
+    ap (λ x. record { policy = x; stored = client.stored.now; alarms = client.alarms.now; trust = client.trust.now; marks = client.marks.now; watch = watch }) made.policy
+    ∙ ap (λ x. record { policy = saved.policy; stored = x; alarms = client.alarms.now; trust = client.trust.now; marks = client.marks.now; watch = watch })
+    (made.stored ∙ says.stored)
+    ∙ ap (λ x. record { policy = saved.policy; stored = saved.stored; alarms = x; trust = client.trust.now; marks = client.marks.now; watch = watch })
     (made.alarms ∙ says.alarms)
-    ∙ ap (λ x. record { policy = saved.policy; kept = saved.kept; alarms = saved.alarms; trust = x; marks = client.marks.now; watch = watch })
+    ∙ ap (λ x. record { policy = saved.policy; stored = saved.stored; alarms = saved.alarms; trust = x; marks = client.marks.now; watch = watch })
     (made.trust ∙ says.trust)
-    ∙ ap (λ x. record { policy = saved.policy; kept = saved.kept; alarms = saved.alarms; trust = saved.trust; marks = x; watch = watch })
+    ∙ ap (λ x. record { policy = saved.policy; stored = saved.stored; alarms = saved.alarms; trust = saved.trust; marks = x; watch = watch })
     (made.marks ∙ says.marks)
-    ∙ ap (λ x. record { policy = saved.policy; kept = saved.kept; alarms = saved.alarms; trust = saved.trust; marks = saved.marks; watch = x })
+    ∙ ap (λ x. record { policy = saved.policy; stored = saved.stored; alarms = saved.alarms; trust = saved.trust; marks = saved.marks; watch = x })
     (watch_is state.watch saved.watch client.watch client.changes.now says.watch made.watch made.changes)

@@ -63,8 +63,8 @@ state-long hash policy state bytes is =
     let size : length bytes ≡ length (body_bytes state ++ hash (body_bytes state)) = ap length sealed.same in
     let all = length-append (body_bytes state) (hash (body_bytes state)) in
     let body = length-append state.policy (part_bytes state) in
-    let parts = length-append (front_bytes state.kept state.alarms state.trust state.marks) (watch_bytes state.watch) in
-    let front = length-front state.kept state.alarms state.trust state.marks is.bytes_of.sized.kept.sized is.bytes_of.sized.trust in
+    let parts = length-append (front_bytes state.stored state.alarms state.trust state.marks) (watch_bytes state.watch) in
+    let front = length-front state.stored state.alarms state.trust state.marks is.bytes_of.sized.stored.sized is.bytes_of.sized.trust in
     let some = some_watch state.watch in let own = is.bytes_of.sized.policy in let digest = sealed.digest in
     omega arith
 
@@ -86,15 +86,15 @@ state_same hash a b bytes is_a is_b =
     let parts_a = sealed_parts hash (body_bytes a) bytes is_a.is_sealed in let parts_b = sealed_parts hash (body_bytes b) bytes is_b.is_sealed in
     let tails = same_tail 3 3 (a.policy ++ part_bytes a) (b.policy ++ part_bytes b) (sym parts_a.0 ∙ parts_b.0) in
     let rests = split_same a.policy b.policy (part_bytes a) (part_bytes b) (is_a.sized.policy ∙ sym is_b.sized.policy) tails.1 in
-    let fronts = front_same (part_bytes a) a.kept b.kept a.alarms b.alarms a.trust b.trust a.marks b.marks (watch_bytes a.watch) (watch_bytes b.watch)
+    let fronts = front_same (part_bytes a) a.stored b.stored a.alarms b.alarms a.trust b.trust a.marks b.marks (watch_bytes a.watch) (watch_bytes b.watch)
     (front_of (part_bytes a) a is_a.sized refl) (front_of (part_bytes a) b is_b.sized rests.1) in
     let watches = watch_same a.watch b.watch is_a.sized.watch is_b.sized.watch fronts.4 in
-    ap (λ x. record { policy = x; kept = a.kept; alarms = a.alarms; trust = a.trust; marks = a.marks; watch = a.watch }) rests.0
-    ∙ ap (λ x. record { policy = b.policy; kept = x; alarms = a.alarms; trust = a.trust; marks = a.marks; watch = a.watch }) fronts.0
-    ∙ ap (λ x. record { policy = b.policy; kept = b.kept; alarms = x; trust = a.trust; marks = a.marks; watch = a.watch }) fronts.1
-    ∙ ap (λ x. record { policy = b.policy; kept = b.kept; alarms = b.alarms; trust = x; marks = a.marks; watch = a.watch }) fronts.2
-    ∙ ap (λ x. record { policy = b.policy; kept = b.kept; alarms = b.alarms; trust = b.trust; marks = x; watch = a.watch }) fronts.3
-    ∙ ap (λ x. record { policy = b.policy; kept = b.kept; alarms = b.alarms; trust = b.trust; marks = b.marks; watch = x }) watches
+    ap (λ x. record { policy = x; stored = a.stored; alarms = a.alarms; trust = a.trust; marks = a.marks; watch = a.watch }) rests.0
+    ∙ ap (λ x. record { policy = b.policy; stored = x; alarms = a.alarms; trust = a.trust; marks = a.marks; watch = a.watch }) fronts.0
+    ∙ ap (λ x. record { policy = b.policy; stored = b.stored; alarms = x; trust = a.trust; marks = a.marks; watch = a.watch }) fronts.1
+    ∙ ap (λ x. record { policy = b.policy; stored = b.stored; alarms = b.alarms; trust = x; marks = a.marks; watch = a.watch }) fronts.2
+    ∙ ap (λ x. record { policy = b.policy; stored = b.stored; alarms = b.alarms; trust = b.trust; marks = x; watch = a.watch }) fronts.3
+    ∙ ap (λ x. record { policy = b.policy; stored = b.stored; alarms = b.alarms; trust = b.trust; marks = b.marks; watch = x }) watches
 
 -- ---- what a call returns
 
@@ -126,10 +126,10 @@ read-none hash policy bytes rest opened body none = (
 -- ---- the number of bytes
 
 pub length-body : (state : SavedState) → length state.policy ≡ 32
-    → length (body_bytes state) ≡ 33 + length (front_bytes state.kept state.alarms state.trust state.marks) + length (watch_bytes state.watch)
+    → length (body_bytes state) ≡ 33 + length (front_bytes state.stored state.alarms state.trust state.marks) + length (watch_bytes state.watch)
 length-body state size =
     let body = length-append state.policy (part_bytes state) in
-    let parts = length-append (front_bytes state.kept state.alarms state.trust state.marks) (watch_bytes state.watch) in
+    let parts = length-append (front_bytes state.stored state.alarms state.trust state.marks) (watch_bytes state.watch) in
     omega arith
 
 pub some_size : (r : Option ℕ) (n m : ℕ) → n ≡ m → IfSome r (λ size. size ≡ n) → IfSome r (λ size. size ≡ m)
@@ -141,6 +141,6 @@ none_size None n m same large = subst (λ k. 2 ^ 64 ≤ k) same large
 none_size (Some k) n m same large = tt
 
 pub sum-size : (state : SavedState) (front watch sum : ℕ) → length state.policy ≡ 32
-    → front ≡ length (front_bytes state.kept state.alarms state.trust state.marks) → watch ≡ length (watch_bytes state.watch)
+    → front ≡ length (front_bytes state.stored state.alarms state.trust state.marks) → watch ≡ length (watch_bytes state.watch)
     → sum ≡ front + watch → sum + 65 ≡ size_of state
 sum-size state front watch sum size front_is watch_is sum_is = let body = length-body state size in omega arith

@@ -3,7 +3,7 @@ use Rattle.std.proofs.Common.{◌≡◌, ◌<◌, ◌≤◌, ℕ, suc, ◌+◌, 
 use Rattle.std.specs.List.{flat_map}
 use Rattle.std.specs.Int.{w32, to_be_bytes}
 use Rattle.std.proofs.lemmas.List.{drop-take, take-append-drop, take-take}
-use Rattle.coniks_client.specs.declared.kept.Kept.{Kept}
+use Rattle.coniks_client.specs.declared.stored.StoredEntry.{StoredEntry}
 use Rattle.coniks_quorum.specs.StateForms.{AreDistinct}
 use Rattle.coniks_quorum.specs.StateReading.{BeginsWithName, HasChanges, IsWatched}
 use Rattle.coniks_quorum.specs.Saved.{SavedWatch, change_bytes, watched_bytes}
@@ -29,10 +29,10 @@ body_parts (x ∷ ys) long =
     step : (m : ℕ) → 33 + m ≡ suc (32 + m)
     step m = omega arith
 
-module _ (kept : List Kept) (bytes name : List ℕ) (since : ℕ) (key : List ℕ) (count : ℕ) (rest : List ℕ) (begins : BeginsWithName bytes name since key count rest) where
+module _ (stored : List StoredEntry) (bytes name : List ℕ) (since : ℕ) (key : List ℕ) (count : ℕ) (rest : List ℕ) (begins : BeginsWithName bytes name since key count rest) where
   -- a name and changes are a watch
-  pub watched_made : (watched : Watched) → HasChanges kept 0 key count rest → watched.watch.name.now ≡ name → watched.watch.since ≡ since → watched.watch.key.now ≡ key
-      → watched.count ≡ count → watched.changes.now ≡ rest → (saved : SavedWatch) × IsWatched kept saved bytes × SaysWatched watched saved
+  pub watched_made : (watched : Watched) → HasChanges stored 0 key count rest → watched.watch.name.now ≡ name → watched.watch.since ≡ since → watched.watch.key.now ≡ key
+      → watched.count ≡ count → watched.changes.now ≡ rest → (saved : SavedWatch) × IsWatched stored saved bytes × SaysWatched watched saved
   watched_made watched has name_is since_is key_is count_is changes_are =
       let are = has.are in
       let named : List ℕ = watched_bytes name since key in (
@@ -46,7 +46,7 @@ module _ (kept : List Kept) (bytes name : List ℕ) (since : ℕ) (key : List �
       )
 
   -- a watch has such changes
-  pub watched-has : (saved : SavedWatch) → IsWatched kept saved bytes → HasChanges kept 0 key count rest
+  pub watched-has : (saved : SavedWatch) → IsWatched stored saved bytes → HasChanges stored 0 key count rest
   watched-has saved is =
       let all = flat_map change_bytes saved.changes in
       let ways = name_same bytes saved.name name saved.since since saved.key key (length saved.changes) count all rest
@@ -64,13 +64,13 @@ module _ (kept : List Kept) (bytes name : List ℕ) (since : ℕ) (key : List �
       }
 
   -- without them bytes are none
-  pub not_watched : (are : Bool) → ((IsTrue are → HasChanges kept 0 key count rest) × (HasChanges kept 0 key count rest → IsTrue are)) → are ≡ false
-      → (saved : SavedWatch) → ¬ IsWatched kept saved bytes
+  pub not_watched : (are : Bool) → ((IsTrue are → HasChanges stored 0 key count rest) × (HasChanges stored 0 key count rest → IsTrue are)) → are ≡ false
+      → (saved : SavedWatch) → ¬ IsWatched stored saved bytes
   not_watched are tells fails saved is = let no : IsTrue false = subst IsTrue fails (tells.1 (watched-has saved is)) in cc
 
 -- bytes that begin with no name are no watch
-pub watched-none : (kept : List Kept) (bytes : List ℕ)
+pub watched-none : (stored : List StoredEntry) (bytes : List ℕ)
     → ((name : List ℕ) (since : ℕ) (key : List ℕ) (count : ℕ) (rest : List ℕ) → ¬ BeginsWithName bytes name since key count rest)
-    → (saved : SavedWatch) → ¬ IsWatched kept saved bytes
-watched-none kept bytes none saved is =
+    → (saved : SavedWatch) → ¬ IsWatched stored saved bytes
+watched-none stored bytes none saved is =
     none saved.name saved.since saved.key (length saved.changes) (flat_map change_bytes saved.changes) (record { sized = is.sized.name; few = is.sized.few; same = is.same })

@@ -4,11 +4,11 @@ use Rattle.std.specs.List.{All, flat_map}
 use Rattle.std.specs.Option.{option_map}
 use Rattle.std.specs.Int.{w32, to_be_bytes}
 use Rattle.std.proofs.lemmas.List.Elements.{All-head, All-tail}
-use Rattle.coniks_client.specs.declared.kept.Kept.{Kept}
+use Rattle.coniks_client.specs.declared.stored.StoredEntry.{StoredEntry}
 use Rattle.coniks_quorum.specs.declared.alarms.Alarm.{Alarm}
 use Rattle.coniks_quorum.specs.StateForms.{AlarmFits, AreSized, Fits, IsFormedWatch, IsSized, IsSizedChange, IsSizedWatch, since_of}
 use Rattle.coniks_quorum.specs.StateReading.{BeginsWithFront, IsRest, IsWatch, IsWatched}
-use Rattle.coniks_quorum.specs.Saved.{SavedChange, SavedState, SavedWatch, alarm_from, change_bytes, front_bytes, kept_from, mark_from, part_bytes, watch_bytes, watched_bytes}
+use Rattle.coniks_quorum.specs.Saved.{SavedChange, SavedState, SavedWatch, alarm_from, change_bytes, front_bytes, stored_from, mark_from, part_bytes, watch_bytes, watched_bytes}
 use Rattle.coniks_quorum.specs.Says.{Says, SaysWatch, SaysWatched}
 use Rattle.coniks_quorum.specs.declared.states.state.State.{State}
 use Rattle.coniks_quorum.specs.declared.states.state.Watched.{Watched}
@@ -54,17 +54,17 @@ watch_same (Some a) (Some b) sized_a sized_b same =
 -- ---- what is before the watch, and the watch
 
 -- the first watched epoch of a watch that was read
-since_said : (w : Option Watched) (x : Option SavedWatch) → SaysWatch w x → since_of x ≡ option_map (λ watched. watched.watch.since) w
-since_said None None says = refl
-since_said None (Some x) says = absurd says
-since_said (Some w) None says = absurd says
-since_said (Some w) (Some x) says = ap (λ s. Some s) (sym says.since)
+since_stated : (w : Option Watched) (x : Option SavedWatch) → SaysWatch w x → since_of x ≡ option_map (λ watched. watched.watch.since) w
+since_stated None None says = refl
+since_stated None (Some x) says = absurd says
+since_stated (Some w) None says = absurd says
+since_stated (Some w) (Some x) says = ap (λ s. Some s) (sym says.since)
 
 -- what is between the policy digest and the digest begins with its front
 pub front_of : (bytes : List ℕ) (saved : SavedState) → IsSized saved → bytes ≡ part_bytes saved
-    → BeginsWithFront bytes saved.kept saved.alarms saved.trust saved.marks (watch_bytes saved.watch)
+    → BeginsWithFront bytes saved.stored saved.alarms saved.trust saved.marks (watch_bytes saved.watch)
 front_of bytes saved sized same = record {
-  kept_counted = sized.kept;
+  stored_counted = sized.stored;
   alarms_counted = sized.alarms;
   trust_size = sized.trust;
   marks_counted = sized.marks;
@@ -73,15 +73,15 @@ front_of bytes saved sized same = record {
 
 -- bytes of no front are no rest
 pub rest-no_front : (bytes : List ℕ)
-    → ((kept : List Kept) (alarms : List Alarm) (trust marks rest : List ℕ) → ¬ BeginsWithFront bytes kept alarms trust marks rest)
+    → ((stored : List StoredEntry) (alarms : List Alarm) (trust marks rest : List ℕ) → ¬ BeginsWithFront bytes stored alarms trust marks rest)
     → (saved : SavedState) → ¬ IsRest saved bytes
-rest-no_front bytes none saved is = none saved.kept saved.alarms saved.trust saved.marks (watch_bytes saved.watch) (front_of bytes saved is.sized is.same)
+rest-no_front bytes none saved is = none saved.stored saved.alarms saved.trust saved.marks (watch_bytes saved.watch) (front_of bytes saved is.sized is.same)
 
-module _ (bytes : List ℕ) (k : List Kept) (a : List Alarm) (t m r : List ℕ) (begins : BeginsWithFront bytes k a t m r) where
+module _ (bytes : List ℕ) (k : List StoredEntry) (a : List Alarm) (t m r : List ℕ) (begins : BeginsWithFront bytes k a t m r) where
   -- what is read of the front is what it is, and the rest is the watch
-  rest-watch : (saved : SavedState) → IsRest saved bytes → (saved.kept ≡ k) × (saved.alarms ≡ a) × IsWatch k saved.watch r
+  rest-watch : (saved : SavedState) → IsRest saved bytes → (saved.stored ≡ k) × (saved.alarms ≡ a) × IsWatch k saved.watch r
   rest-watch saved is =
-      let ways = front_same bytes saved.kept k saved.alarms a saved.trust t saved.marks m (watch_bytes saved.watch) r (front_of bytes saved is.sized is.same) begins in (
+      let ways = front_same bytes saved.stored k saved.alarms a saved.trust t saved.marks m (watch_bytes saved.watch) r (front_of bytes saved is.sized is.same) begins in (
         ways.0,
         ways.1,
         record { sized = is.sized.watch; formed = subst (λ ks. IsFormedWatch ks saved.watch) ways.0 is.formed.changes; same = sym ways.4 },
@@ -99,28 +99,28 @@ module _ (bytes : List ℕ) (k : List Kept) (a : List Alarm) (t m r : List ℕ) 
     rest-misfit fit tells fails saved is =
         let there = rest-watch saved is in
         let one = watch_same saved.watch read.0 there.2.sized read.1.sized (sym there.2.same ∙ read.1.same) in
-        let sinces : since_of saved.watch ≡ since = ap since_of one ∙ since_said w read.0 read.2 ∙ sym since_is in
-        let numbers = subst (λ ks. All (Fits since) ks) there.0 (subst (λ s. All (Fits s) saved.kept) sinces is.formed.numbers) in
+        let sinces : since_of saved.watch ≡ since = ap since_of one ∙ since_stated w read.0 read.2 ∙ sym since_is in
+        let numbers = subst (λ ks. All (Fits since) ks) there.0 (subst (λ s. All (Fits s) saved.stored) sinces is.formed.numbers) in
         let alarms = subst (λ xs. All (AlarmFits since) xs) there.1 (subst (λ s. All (AlarmFits s) saved.alarms) sinces is.formed.alarms) in
         let no : IsTrue false = subst IsTrue fails (tells.1 (numbers, alarms)) in cc
 
 -- all parts
 pub rest_made : (bytes r : List ℕ) (state : State)
-    → BeginsWithFront bytes (map kept_from state.kept.now) (map alarm_from state.alarms.now) state.trust.now (map mark_from state.marks.now) r
-    → (x : Option SavedWatch) × IsWatch (map kept_from state.kept.now) x r × SaysWatch state.watch x
+    → BeginsWithFront bytes (map stored_from state.stored.now) (map alarm_from state.alarms.now) state.trust.now (map mark_from state.marks.now) r
+    → (x : Option SavedWatch) × IsWatch (map stored_from state.stored.now) x r × SaysWatch state.watch x
     → (since : Option ℕ) → since ≡ option_map (λ watched. watched.watch.since) state.watch
-    → All (Fits since) (map kept_from state.kept.now) × All (AlarmFits since) (map alarm_from state.alarms.now) → (policy : List ℕ) → length policy ≡ 32
+    → All (Fits since) (map stored_from state.stored.now) × All (AlarmFits since) (map alarm_from state.alarms.now) → (policy : List ℕ) → length policy ≡ 32
     → (saved : SavedState) × (saved.policy ≡ policy) × IsRest saved bytes × Says state saved
 rest_made bytes r state begins read since since_is fit policy size =
-    let k = map kept_from state.kept.now in let a = map alarm_from state.alarms.now in let t = state.trust.now in let m = map mark_from state.marks.now in
+    let k = map stored_from state.stored.now in let a = map alarm_from state.alarms.now in let t = state.trust.now in let m = map mark_from state.marks.now in
     let is = read.1 in
-    let same : since ≡ since_of read.0 = since_is ∙ sym (since_said state.watch read.0 read.2) in (
-      record { policy = policy; kept = k; alarms = a; trust = t; marks = m; watch = read.0 },
+    let same : since ≡ since_of read.0 = since_is ∙ sym (since_stated state.watch read.0 read.2) in (
+      record { policy = policy; stored = k; alarms = a; trust = t; marks = m; watch = read.0 },
       refl,
       record {
         sized = record {
           policy = size;
-          kept = begins.kept_counted;
+          stored = begins.stored_counted;
           alarms = begins.alarms_counted;
           trust = begins.trust_size;
           marks = begins.marks_counted;
@@ -133,13 +133,13 @@ rest_made bytes r state begins read since since_is fit policy size =
         };
         same = begins.same ∙ ap (λ ys. front_bytes k a t m ++ ys) is.same;
       },
-      record { kept = refl; alarms = refl; trust = refl; marks = refl; watch = read.2 },
+      record { stored = refl; alarms = refl; trust = refl; marks = refl; watch = read.2 },
     )
 
 -- a watch with its kind before it
-pub watch_made : (kept : List Kept) (bytes rest : List ℕ) (kind : ℕ) → bytes ≡ kind ∷ rest → kind ≡ 1 → (w : Watched) → (saved : SavedWatch) × IsWatched kept saved rest × SaysWatched w saved
-    → (x : Option SavedWatch) × IsWatch kept x bytes × SaysWatch (Some w) x
-watch_made kept bytes rest kind whole is w read = (
+pub watch_made : (stored : List StoredEntry) (bytes rest : List ℕ) (kind : ℕ) → bytes ≡ kind ∷ rest → kind ≡ 1 → (w : Watched) → (saved : SavedWatch) × IsWatched stored saved rest × SaysWatched w saved
+    → (x : Option SavedWatch) × IsWatch stored x bytes × SaysWatch (Some w) x
+watch_made stored bytes rest kind whole is w read = (
   Some read.0,
   record { sized = read.1.sized; formed = read.1.formed; same = whole ∙ ap (λ k. k ∷ rest) is ∙ ap (λ ys. 1 ∷ ys) read.1.same },
   read.2,

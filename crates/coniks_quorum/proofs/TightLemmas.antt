@@ -9,8 +9,8 @@ use Rattle.coniks_chain.specs.Entries.{link_preimage}
 use Rattle.coniks_chain.specs.declared.auditor.AuditFault.TheVariants.{FirstEpoch}
 use Rattle.coniks_chain.specs.declared.entry.Entry.{Entry}
 use Rattle.coniks_chain.proofs.Lemmas.{row}
-use Rattle.coniks_client.specs.Kept.{entries_in, entry_in, epoch_in, verified_before}
-use Rattle.coniks_client.specs.declared.kept.Kept.{Kept}
+use Rattle.coniks_client.specs.StoredEntry.{entries_in, entry_in, epoch_in, verified_before}
+use Rattle.coniks_client.specs.declared.stored.StoredEntry.{StoredEntry}
 use Rattle.coniks_quorum.specs.Auditors.{Auditor, HasEntry, IsGood}
 use Rattle.coniks_quorum.specs.Marks.{HasMark, reaching}
 use Rattle.coniks_quorum.specs.Laws.{StandsOn, TightLaw, WitnessLaw}
@@ -18,37 +18,37 @@ use Rattle.coniks_quorum.proofs.CountLemmas.{count-no, count-yes}
 use Rattle.coniks_quorum.proofs.ListLemmas.{only_one}
 
 module _ (hash : List ℕ → List ℕ) where
-  abbrev head_at : Kept → Head
+  abbrev head_at : StoredEntry → Head
   head_at x = record { epoch = epoch_in x; link = record { 0 = hash (link_preimage (entry_in x)) } }
 
   -- an honest auditor of a chain of one entry
-  abbrev on : Kept → Auditor
+  abbrev on : StoredEntry → Auditor
   on x = record { honest = true; entries = entries_in (x ∷ []); cosigned = head_at x ∷ [] }
 
-  on-good : (x : Kept) → GoodChain hash verified_before (entries_in (x ∷ [])) → IsGood hash (on x)
+  on-good : (x : StoredEntry) → GoodChain hash verified_before (entries_in (x ∷ [])) → IsGood hash (on x)
   on-good x chain = record {
     chain = chain;
     only = λ j head at. subst (λ (h : Head). HasEntry hash (entries_in (x ∷ [])) h) (only_one (head_at x) head j at)
         (record { place = 0; entry = entry_in x; there = refl; epoch = refl; link = refl });
   }
 
-  above : (x : Kept) → GoodChain hash verified_before (entries_in (x ∷ [])) → 0 < epoch_in x
+  above : (x : StoredEntry) → GoodChain hash verified_before (entries_in (x ∷ [])) → 0 < epoch_in x
   above x chain = row verified_before None (entry_in x) (chain 0 (entry_in x) refl) FirstEpoch
 
   -- an auditor that cosigned the head
-  marked : (x : Kept) (auditor other : Auditor) (mark : ℕ) → (j : ℕ) × (slice_get auditor.cosigned j ≡ Some (head_at x))
+  marked : (x : StoredEntry) (auditor other : Auditor) (mark : ℕ) → (j : ℕ) × (slice_get auditor.cosigned j ≡ Some (head_at x))
       → auditor ≡ other → epoch_in x ≡ mark → HasMark hash (x ∷ []) other mark
   marked x auditor other mark signed same is = subst (λ (a : Auditor). HasMark hash (x ∷ []) a mark) same
       (record { head = head_at x; cosigned = signed; place = 0; mine = x; there = refl; has = record { epoch = refl; link = refl }; epoch = is })
 
   -- one of two lists has one link only
-  entry_link : (x : Kept) (head : Head) → HasEntry hash (entries_in (x ∷ [])) head → hash (link_preimage (entry_in x)) ≡ head.link.0
+  entry_link : (x : StoredEntry) (head : Head) → HasEntry hash (entries_in (x ∷ [])) head → hash (link_preimage (entry_in x)) ≡ head.link.0
   entry_link x head is = ap (λ (e : Entry). hash (link_preimage e)) (only_one (entry_in x) is.entry is.place is.there) ∙ is.link
 
-  stand_link : (auditor : Auditor) (x : Kept) (epoch : ℕ) (is : StandsOn hash auditor (x ∷ []) epoch) → hash (link_preimage (entry_in x)) ≡ is.head.link.0
-  stand_link auditor x epoch is = ap (λ (m : Kept). hash (link_preimage (entry_in m))) (only_one x is.mine is.place is.there) ∙ is.has.link
+  stand_link : (auditor : Auditor) (x : StoredEntry) (epoch : ℕ) (is : StandsOn hash auditor (x ∷ []) epoch) → hash (link_preimage (entry_in x)) ≡ is.head.link.0
+  stand_link auditor x epoch is = ap (λ (m : StoredEntry). hash (link_preimage (entry_in m))) (only_one x is.mine is.place is.there) ∙ is.has.link
 
-  module _ (a b : Kept) (good_a : GoodChain hash verified_before (entries_in (a ∷ []))) (good_b : GoodChain hash verified_before (entries_in (b ∷ []))) where
+  module _ (a b : StoredEntry) (good_a : GoodChain hash verified_before (entries_in (a ∷ []))) (good_b : GoodChain hash verified_before (entries_in (b ∷ []))) where
     abbrev liar : Auditor
     liar = record { honest = false; entries = []; cosigned = head_at a ∷ head_at b ∷ [] }
 

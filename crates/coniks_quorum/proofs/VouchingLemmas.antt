@@ -6,8 +6,8 @@ use Rattle.coniks_proof.specs.declared.values.Head.{Head}
 use Rattle.coniks_chain.specs.Entries.{entry_from}
 use Rattle.coniks_chain.specs.declared.entry.Entry.{Entry}
 use Rattle.coniks_client.specs.Feeding.{IsVerified}
-use Rattle.coniks_client.specs.Kept.{entry_in, epoch_in}
-use Rattle.coniks_client.specs.declared.kept.Kept.{Kept}
+use Rattle.coniks_client.specs.StoredEntry.{entry_in, epoch_in}
+use Rattle.coniks_client.specs.declared.stored.StoredEntry.{StoredEntry}
 use Rattle.coniks_quorum.specs.Marks.{IsGreatest, has_head, mark_of, marks_of}
 use Rattle.coniks_quorum.specs.Vouching.{Begins, IsRefusedStart, IsUnvouched, IsVouched, StartLaw, has_same, head_of}
 use Rattle.coniks_quorum.specs.declared.vouching.StartFault.{StartFault}
@@ -31,7 +31,7 @@ module _ (hash : List ℕ → List ℕ) (verdict : List ℕ → List ℕ → Boo
   pub begins : IsVouched own all quorum → Begins hash verdict policy all quorum bytes
   begins vouched = record { verified = verified; vouched = subst (λ (h : Head). IsVouched h all quorum) own-head vouched }
 
-module _ (hash : List ℕ → List ℕ) (mine : Kept) (all : List (Option Head)) (quorum : ℕ) where
+module _ (hash : List ℕ → List ℕ) (mine : StoredEntry) (all : List (Option Head)) (quorum : ℕ) where
   -- an auditor that has the entry's head has a mark at its epoch
   reaches : (head : Option Head) → has_same (head_of hash (entry_in mine)) head ≡ true → nat_le (epoch_in mine) (mark_of hash (mine ∷ []) head) ≡ true
   reaches None is = absurd (cc)
@@ -69,7 +69,7 @@ module _ (hash : List ℕ → List ℕ) (mine : Kept) (all : List (Option Head))
   }
 
 -- an entry of this directory has an epoch
-pub confirmed_by_heads : (hash : List ℕ → List ℕ) (verdict : List ℕ → List ℕ → Bool) (policy : List ℕ) (mine : Kept) (all : List (Option Head)) (quorum : ℕ) (bytes : List ℕ) (entry : Entry) (own : Head)
+pub confirmed_by_heads : (hash : List ℕ → List ℕ) (verdict : List ℕ → List ℕ → Bool) (policy : List ℕ) (mine : StoredEntry) (all : List (Option Head)) (quorum : ℕ) (bytes : List ℕ) (entry : Entry) (own : Head)
     → mine.entry ≡ bytes → entry ≡ entry_from bytes → own ≡ head_of hash entry → IsVerified verdict policy bytes → 0 < quorum → IsVouched own all quorum
     → IsGreatest (marks_of hash (mine ∷ []) all) quorum (epoch_in mine)
 confirmed_by_heads hash verdict policy mine all quorum bytes entry own whole from head verified some vouched =

@@ -5,7 +5,7 @@ use Rattle.coniks_proof.specs.declared.values.Head.{Head}
 use Rattle.coniks_chain.specs.Chain.{GoodChain}
 use Rattle.coniks_chain.specs.Entries.{link_preimage}
 use Rattle.coniks_chain.specs.declared.entry.Entry.{Entry}
-use Rattle.coniks_client.specs.Kept.{verified_before}
+use Rattle.coniks_client.specs.StoredEntry.{verified_before}
 
 -- at most f of n auditors lie: any two sets of these sizes share an honest one
 abbrev pub Overlap : ℕ → ℕ → ℕ → ℕ → Type 0

@@ -6,24 +6,24 @@ use Rattle.coniks_proof.specs.Octets.{Octets}
 use Rattle.coniks_proof.specs.declared.values.Head.{Head}
 use Rattle.coniks_chain.specs.Entries.{link_preimage}
 use Rattle.coniks_client.specs.Comparing.{HasHead}
-use Rattle.coniks_client.specs.Kept.{entry_in, epoch_in}
+use Rattle.coniks_client.specs.StoredEntry.{entry_in, epoch_in}
 use Rattle.coniks_client.specs.declared.comparing.Comparison.{Comparison}
 use Rattle.coniks_client.specs.declared.comparing.Comparison.TheVariants.{Equal}
-use Rattle.coniks_client.specs.declared.kept.Kept.{Kept}
+use Rattle.coniks_client.specs.declared.stored.StoredEntry.{StoredEntry}
 use Rattle.coniks_quorum.specs.Auditors.{Auditor}
 
 -- a mark that is not 0: the epoch of a head that the auditor cosigned, and that an entry of the client's chain has
-pub record HasMark (hash : Octets → Octets) (accepted : List Kept) (auditor : Auditor) (mark : ℕ) : Type 0 where
+pub record HasMark (hash : Octets → Octets) (accepted : List StoredEntry) (auditor : Auditor) (mark : ℕ) : Type 0 where
   pub head : Head
   pub cosigned : (j : ℕ) × (slice_get auditor.cosigned j ≡ Some head)
   pub place : ℕ
-  pub mine : Kept
+  pub mine : StoredEntry
   pub there : slice_get accepted place ≡ Some mine
   pub has : HasHead hash mine head
   pub epoch : head.epoch ≡ mark
 
 -- a mark for each auditor; `accepted` has each entry that the client accepted, also those that it dropped later
-pub record AreMarks (hash : Octets → Octets) (auditors : List Auditor) (accepted : List Kept) (marks : List ℕ) : Type 0 where
+pub record AreMarks (hash : Octets → Octets) (auditors : List Auditor) (accepted : List StoredEntry) (marks : List ℕ) : Type 0 where
   pub size : length marks ≡ length auditors
   pub each : (i : ℕ) (auditor : Auditor) (mark : ℕ) → slice_get auditors i ≡ Some auditor → slice_get marks i ≡ Some mark
       → 0 < mark → HasMark hash accepted auditor mark
@@ -49,7 +49,7 @@ pub record IsBetter (marks : List ℕ) (quorum best mark new : ℕ) : Type 0 whe
   pub passed : (mark ≤ new) ⊎ (reaching marks mark < quorum)
 
 -- a quorum confirms the client's chain up to an epoch
-pub record IsConfirmed (hash : Octets → Octets) (auditors : List Auditor) (accepted : List Kept) (marks : List ℕ) (quorum epoch : ℕ) : Type 0 where
+pub record IsConfirmed (hash : Octets → Octets) (auditors : List Auditor) (accepted : List StoredEntry) (marks : List ℕ) (quorum epoch : ℕ) : Type 0 where
   pub marked : AreMarks hash auditors accepted marks
   pub above : 0 < epoch
   pub enough : quorum ≤ reaching marks epoch
@@ -69,15 +69,15 @@ abbrev pub Remembers : List ℕ → List ℕ → ℕ → ℕ → Comparison → 
 Remembers old new place epoch (Equal found) = IsRaised old new place epoch
 Remembers old new place epoch _ = new ≡ old
 
--- the kept epoch has this head
-abbrev pub has_head : (Octets → Octets) → Head → Kept → Bool
+-- the stored epoch has this head
+abbrev pub has_head : (Octets → Octets) → Head → StoredEntry → Bool
 has_head hash head mine = (epoch_in mine == head.epoch) && bytes_eq (hash (link_preimage (entry_in mine))) head.link.0
 
 -- the mark that an auditor's head gives: its epoch if it is equal, else 0
-abbrev pub mark_of : (Octets → Octets) → List Kept → Option Head → ℕ
-mark_of hash kept None = 0
-mark_of hash kept (Some head) = if list_any (has_head hash head) kept then head.epoch else 0
+abbrev pub mark_of : (Octets → Octets) → List StoredEntry → Option Head → ℕ
+mark_of hash stored None = 0
+mark_of hash stored (Some head) = if list_any (has_head hash head) stored then head.epoch else 0
 
 -- the marks that the auditors' heads give, at most one for each
-abbrev pub marks_of : (Octets → Octets) → List Kept → List (Option Head) → List ℕ
-marks_of hash kept heads = map (mark_of hash kept) heads
+abbrev pub marks_of : (Octets → Octets) → List StoredEntry → List (Option Head) → List ℕ
+marks_of hash stored heads = map (mark_of hash stored) heads

@@ -2,11 +2,11 @@
 use Rattle.std.specs.Prelude.{◌≡◌, ◌<◌, ◌≤◌, ◌-◌, ◌++◌, ℕ, List, Option, Some, length, slice_get}
 use Rattle.coniks_proof.specs.Octets.{Octets}
 use Rattle.coniks_client.specs.Changes.{expected}
-use Rattle.coniks_client.specs.Kept.{entry_in, epoch_in}
+use Rattle.coniks_client.specs.StoredEntry.{entry_in, epoch_in}
 use Rattle.coniks_client.specs.Owner.{IsBacked, IsSame, IsShown, IsWatched, Scheme}
 use Rattle.coniks_client.specs.Runs.{Run}
 use Rattle.coniks_client.specs.declared.changes.Change.{Change}
-use Rattle.coniks_client.specs.declared.kept.Kept.{Kept}
+use Rattle.coniks_client.specs.declared.stored.StoredEntry.{StoredEntry}
 use Rattle.coniks_quorum.specs.Alarms.{AreLogged}
 use Rattle.coniks_quorum.specs.Auditors.{AreAuditors, Auditor, Overlap}
 use Rattle.coniks_quorum.specs.Clients.{IsClient, timeline}
@@ -23,7 +23,7 @@ use Rattle.coniks_quorum.specs.declared.sights.View.{View}
 -- from the first epoch that is the same to the latest one
 pub record IsSpan (view : View) (span : Span) : Type 0 where
   pub first : IsFirstSeen view Same span.from
-  pub latest : (mine : Kept) × (slice_get view.kept.now (length view.kept.now - 1) ≡ Some mine) × (epoch_in mine ≡ span.to)
+  pub latest : (mine : StoredEntry) × (slice_get view.stored.now (length view.stored.now - 1) ≡ Some mine) × (epoch_in mine ≡ span.to)
 
 -- there is no alarm, and no watched epoch is changed or missing
 pub record SeesNoFault (view : View) : Type 0 where
@@ -49,13 +49,13 @@ Reports view confirmed (Good span) = SeesNoFault view × ReportsSame view confir
 
 -- if `Good` is reported, each dropped epoch was seen as the same, from an epoch on from which no alarm was noted
 abbrev pub LoggedLaw : Type 0
-LoggedLaw = (view : View) (confirmed : Option ℕ) (span : Span) (from : ℕ) (dropped : List Kept)
+LoggedLaw = (view : View) (confirmed : Option ℕ) (span : Span) (from : ℕ) (dropped : List StoredEntry)
     → Reports view confirmed (Good span) → AreLogged from dropped view.alarms.now
-    → (k : ℕ) (mine : Kept) → slice_get dropped k ≡ Some mine → from ≤ epoch_in mine → IsSame mine.seen
+    → (k : ℕ) (mine : StoredEntry) → slice_get dropped k ≡ Some mine → from ≤ epoch_in mine → IsSame mine.seen
 
 -- Alice's and Bob's clients name the same auditors, their quorums overlap, and each quorum confirms an epoch. What they keep is the
 -- rest of all that they accepted
-pub record AreConfirmed (hash : Octets → Octets) (n f quorum_a quorum_b : ℕ) (auditors : List Auditor) (before_a alice before_b bob : List Kept) (of_a of_b : List ℕ) (to_a to_b : ℕ) : Type 0 where
+pub record AreConfirmed (hash : Octets → Octets) (n f quorum_a quorum_b : ℕ) (auditors : List Auditor) (before_a alice before_b bob : List StoredEntry) (of_a of_b : List ℕ) (to_a to_b : ℕ) : Type 0 where
   pub overlap : Overlap n f quorum_a quorum_b
   pub are : AreAuditors hash n f auditors
   pub hers : IsClient hash auditors before_a alice of_a
@@ -64,9 +64,9 @@ pub record AreConfirmed (hash : Octets → Octets) (n f quorum_a quorum_b : ℕ)
   pub his_to : IsGreatest of_b quorum_b to_b
 
 -- a client accepted an answer for a name at an epoch, and relies on it
-pub record ReliesOn (hash : Octets → Octets) (scheme : Scheme) (name : Octets) (kept : List Kept) (to : ℕ) (mine : Kept) (answer : Option Octets) : Type 0 where
+pub record ReliesOn (hash : Octets → Octets) (scheme : Scheme) (name : Octets) (stored : List StoredEntry) (to : ℕ) (mine : StoredEntry) (answer : Option Octets) : Type 0 where
   pub place : ℕ
-  pub there : slice_get kept place ≡ Some mine
+  pub there : slice_get stored place ≡ Some mine
   pub above : 0 < epoch_in mine
   pub confirmed : Confirms (Some to) (epoch_in mine)
   pub shown : IsShown hash scheme (entry_in mine) name answer
@@ -75,30 +75,30 @@ pub record ReliesOn (hash : Octets → Octets) (scheme : Scheme) (name : Octets)
 -- Then it is the key that her changes expect of this epoch; or an honest auditor's chain forks from one of theirs; or there are two
 -- answers under one root; or two indices of her name.
 abbrev pub GoodLaw : Type 0
-GoodLaw = (hash : Octets → Octets) (n f quorum_a quorum_b : ℕ) (auditors : List Auditor) (before_a before_b bob : List Kept) (of_a of_b : List ℕ) (to_a to_b : ℕ)
-    (scheme : Scheme) (name : Octets) (key : Option Octets) (changes : List Change) (view : View) (span : Span) (his : Kept) (answer : Option Octets)
-    → AreConfirmed hash n f quorum_a quorum_b auditors before_a view.kept.now before_b bob of_a of_b to_a to_b
-    → IsWatched hash scheme name key changes view.kept.now → Reports view (Some to_a) (Good span)
+GoodLaw = (hash : Octets → Octets) (n f quorum_a quorum_b : ℕ) (auditors : List Auditor) (before_a before_b bob : List StoredEntry) (of_a of_b : List ℕ) (to_a to_b : ℕ)
+    (scheme : Scheme) (name : Octets) (key : Option Octets) (changes : List Change) (view : View) (span : Span) (his : StoredEntry) (answer : Option Octets)
+    → AreConfirmed hash n f quorum_a quorum_b auditors before_a view.stored.now before_b bob of_a of_b to_a to_b
+    → IsWatched hash scheme name key changes view.stored.now → Reports view (Some to_a) (Good span)
     → ReliesOn hash scheme name bob to_b his answer → span.from ≤ epoch_in his → epoch_in his ≤ span.to
-    → IsWantedOrFork hash scheme name auditors (before_a ++ view.kept.now) (before_b ++ bob) (entry_in his) answer (expected key changes (epoch_in his))
+    → IsWantedOrFork hash scheme name auditors (before_a ++ view.stored.now) (before_b ++ bob) (entry_in his) answer (expected key changes (epoch_in his))
 
 -- the same if Alice's client came to its state by these calls
 abbrev pub GoodRunLaw : Type 0
-GoodRunLaw = (hash : Octets → Octets) (n f quorum_a quorum_b : ℕ) (auditors : List Auditor) (before_a before_b bob : List Kept) (of_a of_b : List ℕ) (to_a to_b : ℕ)
-    (scheme : Scheme) (name : Octets) (key : Option Octets) (changes : List Change) (view : View) (span : Span) (his : Kept) (answer : Option Octets)
-    → AreConfirmed hash n f quorum_a quorum_b auditors before_a view.kept.now before_b bob of_a of_b to_a to_b
-    → Run hash scheme name key changes view.kept.now → Reports view (Some to_a) (Good span)
+GoodRunLaw = (hash : Octets → Octets) (n f quorum_a quorum_b : ℕ) (auditors : List Auditor) (before_a before_b bob : List StoredEntry) (of_a of_b : List ℕ) (to_a to_b : ℕ)
+    (scheme : Scheme) (name : Octets) (key : Option Octets) (changes : List Change) (view : View) (span : Span) (his : StoredEntry) (answer : Option Octets)
+    → AreConfirmed hash n f quorum_a quorum_b auditors before_a view.stored.now before_b bob of_a of_b to_a to_b
+    → Run hash scheme name key changes view.stored.now → Reports view (Some to_a) (Good span)
     → ReliesOn hash scheme name bob to_b his answer → span.from ≤ epoch_in his → epoch_in his ≤ span.to
-    → IsWantedOrFork hash scheme name auditors (before_a ++ view.kept.now) (before_b ++ bob) (entry_in his) answer (expected key changes (epoch_in his))
+    → IsWantedOrFork hash scheme name auditors (before_a ++ view.stored.now) (before_b ++ bob) (entry_in his) answer (expected key changes (epoch_in his))
 
 -- and the same from a watched epoch on from which no alarm was noted, also at dropped epochs: the key is the one that she expected of
 -- the epoch before it was dropped
 abbrev pub GoodPastLaw : Type 0
-GoodPastLaw = (hash : Octets → Octets) (n f quorum_a quorum_b : ℕ) (auditors : List Auditor) (before_a before_b bob : List Kept) (of_a of_b : List ℕ) (to_a to_b : ℕ)
-    (scheme : Scheme) (name : Octets) (past : ℕ → Option Octets) (key : Option Octets) (changes : List Change) (view : View) (span : Span) (from : ℕ) (oldest his : Kept) (answer : Option Octets)
-    → AreConfirmed hash n f quorum_a quorum_b auditors before_a view.kept.now before_b bob of_a of_b to_a to_b
+GoodPastLaw = (hash : Octets → Octets) (n f quorum_a quorum_b : ℕ) (auditors : List Auditor) (before_a before_b bob : List StoredEntry) (of_a of_b : List ℕ) (to_a to_b : ℕ)
+    (scheme : Scheme) (name : Octets) (past : ℕ → Option Octets) (key : Option Octets) (changes : List Change) (view : View) (span : Span) (from : ℕ) (oldest his : StoredEntry) (answer : Option Octets)
+    → AreConfirmed hash n f quorum_a quorum_b auditors before_a view.stored.now before_b bob of_a of_b to_a to_b
     → AreLogged from before_a view.alarms.now → IsBacked hash scheme name past before_a
-    → IsWatched hash scheme name key changes view.kept.now → Reports view (Some to_a) (Good span)
-    → slice_get view.kept.now 0 ≡ Some oldest → ((mine : Kept) → slice_get (before_a ++ view.kept.now) 0 ≡ Some mine → epoch_in mine ≤ from)
+    → IsWatched hash scheme name key changes view.stored.now → Reports view (Some to_a) (Good span)
+    → slice_get view.stored.now 0 ≡ Some oldest → ((mine : StoredEntry) → slice_get (before_a ++ view.stored.now) 0 ≡ Some mine → epoch_in mine ≤ from)
     → 0 < from → view.since ≤ from → ReliesOn hash scheme name bob to_b his answer → from ≤ epoch_in his → epoch_in his ≤ span.to
-    → IsWantedOrFork hash scheme name auditors (before_a ++ view.kept.now) (before_b ++ bob) (entry_in his) answer (timeline past (epoch_in oldest) key changes (epoch_in his))
+    → IsWantedOrFork hash scheme name auditors (before_a ++ view.stored.now) (before_b ++ bob) (entry_in his) answer (timeline past (epoch_in oldest) key changes (epoch_in his))

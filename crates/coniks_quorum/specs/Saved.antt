@@ -2,9 +2,10 @@
 use Rattle.std.specs.Prelude.{ℕ, List, [], ◌∷◌, ◌++◌, Option, Some, None, drop, flat_map, length, map, slice_index, take}
 use Rattle.std.specs.Int.{from_be_bytes, to_be_bytes, w32, w64}
 use Rattle.std.specs.Option.{option_map}
+use Rattle.coniks_chain.specs.Entries.{entry_length}
 use Rattle.coniks_proof.specs.Octets.{Octets}
 use Rattle.coniks_client.specs.declared.changes.Change.{Change}
-use Rattle.coniks_client.specs.declared.kept.Kept.{Kept}
+use Rattle.coniks_client.specs.declared.stored.StoredEntry.{StoredEntry}
 use Rattle.coniks_client.specs.declared.watching.Watch.{Watch}
 use Rattle.coniks_quorum.specs.declared.alarms.Alarm.{Alarm}
 use Rattle.coniks_quorum.specs.declared.states.client.Client.{Client}
@@ -22,19 +23,19 @@ pub record SavedWatch : Type 0 where
   pub key : Octets
   pub changes : List SavedChange
 
--- the policy digest, the kept epochs, the alarms of dropped ones, the hash of the trust document, a mark for each of its auditors, and the
+-- the policy digest, the stored epochs, the alarms of dropped ones, the hash of the trust document, a mark for each of its auditors, and the
 -- watched name, if there is one
 pub record SavedState : Type 0 where
   pub policy : Octets
-  pub kept : List Kept
+  pub stored : List StoredEntry
   pub alarms : List Alarm
   pub trust : Octets
   pub marks : List ℕ
   pub watch : Option SavedWatch
 
--- the bytes of a kept epoch: its entry's 209, the time's 8, and the number of what was seen
-abbrev pub kept_bytes : Kept → Octets
-kept_bytes mine = mine.entry ++ mine.first_seen ++ mine.seen ∷ []
+-- the bytes of a stored epoch: its entry's 209, the time's 8, and the number of what was seen
+abbrev pub stored_bytes : StoredEntry → Octets
+stored_bytes mine = mine.entry ++ mine.first_seen ++ mine.seen ∷ []
 
 -- the bytes of an alarm: its epoch's 8, and the number of what was seen
 abbrev pub alarm_bytes : Alarm → Octets
@@ -65,12 +66,12 @@ watch_bytes (Some watch) =
     1 ∷ watched_bytes watch.name watch.since watch.key ++ to_be_bytes w32 (length watch.changes) ++ flat_map change_bytes watch.changes
 
 -- what is between the policy digest and the watch
-abbrev pub front_bytes : List Kept → List Alarm → Octets → List ℕ → Octets
-front_bytes kept alarms trust marks = counted_bytes kept_bytes kept ++ counted_bytes alarm_bytes alarms ++ trust ++ counted_bytes mark_bytes marks
+abbrev pub front_bytes : List StoredEntry → List Alarm → Octets → List ℕ → Octets
+front_bytes stored alarms trust marks = counted_bytes stored_bytes stored ++ counted_bytes alarm_bytes alarms ++ trust ++ counted_bytes mark_bytes marks
 
 -- what is between the policy digest and the digest
 abbrev pub part_bytes : SavedState → Octets
-part_bytes state = front_bytes state.kept state.alarms state.trust state.marks ++ watch_bytes state.watch
+part_bytes state = front_bytes state.stored state.alarms state.trust state.marks ++ watch_bytes state.watch
 
 -- all bytes but the digest
 abbrev pub body_bytes : SavedState → Octets
@@ -95,16 +96,16 @@ saved_watch changes watch = record {
 abbrev pub saved_state : Client → SavedState
 saved_state client = record {
   policy = client.policy.now;
-  kept = client.kept.now;
+  stored = client.stored.now;
   alarms = client.alarms.now;
   trust = client.trust.now;
   marks = client.marks.now;
   watch = option_map (saved_watch client.changes.now) client.watch;
 }
 
--- the kept epoch that 218 bytes are
-abbrev pub kept_from : Octets → Kept
-kept_from bytes = record { entry = take 209 bytes; first_seen = take 8 (drop 209 bytes); seen = slice_index bytes 217 }
+-- the stored epoch that 218 bytes are
+abbrev pub stored_from : Octets → StoredEntry
+stored_from bytes = record { entry = take entry_length bytes; first_seen = take 8 (drop entry_length bytes); seen = slice_index bytes 217 }
 
 -- the alarm that 9 bytes are, and the mark that 8 are
 abbrev pub alarm_from : Octets → Alarm

@@ -1,7 +1,7 @@
 -- What the parts of a state that was read say.
 use Rattle.std.specs.Prelude.{◌≡◌, ℕ, List, All, Option, Some, None, flat_map, length, map}
 use Rattle.coniks_proof.specs.Octets.{Octets}
-use Rattle.coniks_quorum.specs.Saved.{SavedState, SavedWatch, alarm_from, change_bytes, kept_from, mark_from}
+use Rattle.coniks_quorum.specs.Saved.{SavedState, SavedWatch, alarm_from, change_bytes, stored_from, mark_from}
 use Rattle.coniks_quorum.specs.declared.states.state.State.{State}
 use Rattle.coniks_quorum.specs.declared.states.state.Watched.{Watched}
 
@@ -21,7 +21,7 @@ SaysWatch (Some watched) (Some saved) = SaysWatched watched saved
 
 -- the parts are those of a state
 pub record Says (state : State) (saved : SavedState) : Type 0 where
-  pub kept : map kept_from state.kept.now ≡ saved.kept
+  pub stored : map stored_from state.stored.now ≡ saved.stored
   pub alarms : map alarm_from state.alarms.now ≡ saved.alarms
   pub trust : state.trust.now ≡ saved.trust
   pub marks : map mark_from state.marks.now ≡ saved.marks

@@ -1,14 +1,15 @@
 -- When a state has bytes, and when it is one that a client can have.
 use Rattle.std.specs.Prelude.{◌≡◌, ◌≢◌, ◌⊎◌, ◌<◌, ◌≤◌, ◌^◌, ℕ, List, [], ◌∷◌, ◌++◌, Option, Some, None, All, length}
+use Rattle.coniks_chain.specs.Entries.{entry_length}
 use Rattle.coniks_proof.specs.Octets.{Octets}
-use Rattle.coniks_client.specs.Kept.{epoch_in}
-use Rattle.coniks_client.specs.declared.kept.Kept.{Kept}
+use Rattle.coniks_client.specs.StoredEntry.{epoch_in}
+use Rattle.coniks_client.specs.declared.stored.StoredEntry.{StoredEntry}
 use Rattle.coniks_quorum.specs.declared.alarms.Alarm.{Alarm}
 use Rattle.coniks_quorum.specs.Saved.{SavedChange, SavedState, SavedWatch, body_bytes}
 
 -- an entry of 209 bytes, and a time of 8
-pub record IsKept (mine : Kept) : Type 0 where
-  pub entry : length mine.entry ≡ 209
+pub record IsStored (mine : StoredEntry) : Type 0 where
+  pub entry : length mine.entry ≡ entry_length
   pub time : length mine.first_seen ≡ 8
 
 -- the epoch of an alarm, and a mark, are below 2^64
@@ -46,10 +47,10 @@ abbrev pub AreSized : Option SavedWatch → Type 0
 AreSized None = Unit {0}
 AreSized (Some watch) = IsSizedWatch watch
 
--- fewer than 2^32 kept epochs, alarms and marks: a state that has bytes
+-- fewer than 2^32 stored epochs, alarms and marks: a state that has bytes
 pub record IsSized (state : SavedState) : Type 0 where
   pub policy : length state.policy ≡ 32
-  pub kept : AreCounted IsKept state.kept
+  pub stored : AreCounted IsStored state.stored
   pub alarms : AreCounted IsAlarm state.alarms
   pub trust : length state.trust ≡ 32
   pub marks : AreCounted IsMark state.marks
@@ -69,20 +70,20 @@ AreDistinct key (change ∷ later) = (key ≢ change.key) × AreDistinct change.
 abbrev pub IsOutside : ℕ → SavedChange → Type 0
 IsOutside epoch change = (epoch ≤ change.last_old) ⊎ (change.first_new ≤ epoch)
 
--- a kept epoch did not show the same, or is outside the window of a change
-abbrev pub IsClearAt : SavedChange → Kept → Type 0
+-- a stored epoch did not show the same, or is outside the window of a change
+abbrev pub IsClearAt : SavedChange → StoredEntry → Type 0
 IsClearAt change mine = mine.seen ≡ 1 → IsOutside (epoch_in mine) change
 
 -- so is each of them
-abbrev pub IsClear : List Kept → SavedChange → Type 0
-IsClear kept change = All (IsClearAt change) kept
+abbrev pub IsClear : List StoredEntry → SavedChange → Type 0
+IsClear stored change = All (IsClearAt change) stored
 
 -- the numbers of a watched epoch: the same, another key, no key, missing
 abbrev pub IsSeen : ℕ → Type 0
 IsSeen number = (number ≡ 1) ⊎ (number ≡ 3) ⊎ (number ≡ 4) ⊎ (number ≡ 5)
 
 -- an epoch before the first watched one has the number 0, and a later one that of what was seen
-abbrev pub Fits : Option ℕ → Kept → Type 0
+abbrev pub Fits : Option ℕ → StoredEntry → Type 0
 Fits None mine = mine.seen ≡ 0
 Fits (Some since) mine = ((epoch_in mine < since) × (mine.seen ≡ 0)) ⊎ ((since ≤ epoch_in mine) × IsSeen mine.seen)
 
@@ -100,21 +101,21 @@ abbrev pub since_of : Option SavedWatch → Option ℕ
 since_of None = None
 since_of (Some watch) = Some watch.since
 
--- the changes after a key, beside the kept epochs
-pub record AreFormed (kept : List Kept) (key : Octets) (changes : List SavedChange) : Type 0 where
+-- the changes after a key, beside the stored epochs
+pub record AreFormed (stored : List StoredEntry) (key : Octets) (changes : List SavedChange) : Type 0 where
   pub order : AreOrdered 0 changes
   pub distinct : AreDistinct key changes
-  pub clear : All (IsClear kept) changes
+  pub clear : All (IsClear stored) changes
 
-abbrev pub IsFormedWatch : List Kept → Option SavedWatch → Type 0
-IsFormedWatch kept None = Unit {0}
-IsFormedWatch kept (Some watch) = AreFormed kept watch.key watch.changes
+abbrev pub IsFormedWatch : List StoredEntry → Option SavedWatch → Type 0
+IsFormedWatch stored None = Unit {0}
+IsFormedWatch stored (Some watch) = AreFormed stored watch.key watch.changes
 
 -- numbers, alarms, and changes, that a client can have
 pub record IsFormed (state : SavedState) : Type 0 where
-  pub numbers : All (Fits (since_of state.watch)) state.kept
+  pub numbers : All (Fits (since_of state.watch)) state.stored
   pub alarms : All (AlarmFits (since_of state.watch)) state.alarms
-  pub changes : IsFormedWatch state.kept state.watch
+  pub changes : IsFormedWatch state.stored state.watch
 
 -- bytes of which the last 32 are the hash of those before
 pub record IsSealed (hash : Octets → Octets) (body bytes : Octets) : Type 0 where

@@ -2,9 +2,9 @@
 use Rattle.std.specs.Prelude.{◌≡◌, ◌≢◌, ◌<◌, ◌≤◌, ◌^◌, ℕ, List, ◌++◌, All, Option, drop, flat_map, length, slice_index, take, ◌-◌, ◌*◌}
 use Rattle.std.specs.Int.{to_be_bytes, w32}
 use Rattle.coniks_proof.specs.Octets.{Octets}
-use Rattle.coniks_client.specs.declared.kept.Kept.{Kept}
+use Rattle.coniks_client.specs.declared.stored.StoredEntry.{StoredEntry}
 use Rattle.coniks_quorum.specs.declared.alarms.Alarm.{Alarm}
-use Rattle.coniks_quorum.specs.StateForms.{AreCounted, AreDistinct, AreFormed, AreOrdered, AreSized, IsAlarm, IsClear, IsFormed, IsFormedWatch, IsKept, IsMark, IsSized, IsSizedChange, IsSizedName, IsSizedWatch, IsStateOf}
+use Rattle.coniks_quorum.specs.StateForms.{AreCounted, AreDistinct, AreFormed, AreOrdered, AreSized, IsAlarm, IsClear, IsFormed, IsFormedWatch, IsStored, IsMark, IsSized, IsSizedChange, IsSizedName, IsSizedWatch, IsStateOf}
 use Rattle.coniks_quorum.specs.Saved.{SavedChange, SavedState, SavedWatch, change_bytes, counted_bytes, front_bytes, key_bytes, part_bytes, watch_bytes, watched_bytes}
 use Rattle.coniks_quorum.specs.declared.states.reading.StateFault.{StateFault}
 use Rattle.coniks_quorum.specs.declared.states.reading.StateFault.TheVariants.{StateLength, StateVersion, StateDamaged, StatePolicy, StateForm}
@@ -49,7 +49,7 @@ pub record BeginsWithChange (bytes : Octets) (change : SavedChange) (rest : Octe
   pub sized : IsSizedChange change
   pub same : bytes ≡ change_bytes change ++ rest
 
--- parts of one size, with their number before them: the kept epochs, the alarms, or the marks
+-- parts of one size, with their number before them: the stored epochs, the alarms, or the marks
 pub record BeginsWithParts {X : Type 0} (one_bytes : X → Octets) (IsPart : X → Type 0) (bytes : Octets) (parts : List X) (rest : Octets) : Type 0 where
   pub counted : AreCounted IsPart parts
   pub same : bytes ≡ counted_bytes one_bytes parts ++ rest
@@ -61,12 +61,12 @@ pub record BeginsWithCount (one : ℕ) (bytes : Octets) (count : ℕ) (parts res
   pub same : bytes ≡ to_be_bytes w32 count ++ parts ++ rest
 
 -- all parts before the watch
-pub record BeginsWithFront (bytes : Octets) (kept : List Kept) (alarms : List Alarm) (trust : Octets) (marks : List ℕ) (rest : Octets) : Type 0 where
-  pub kept_counted : AreCounted IsKept kept
+pub record BeginsWithFront (bytes : Octets) (stored : List StoredEntry) (alarms : List Alarm) (trust : Octets) (marks : List ℕ) (rest : Octets) : Type 0 where
+  pub stored_counted : AreCounted IsStored stored
   pub alarms_counted : AreCounted IsAlarm alarms
   pub trust_size : length trust ≡ 32
   pub marks_counted : AreCounted IsMark marks
-  pub same : bytes ≡ front_bytes kept alarms trust marks ++ rest
+  pub same : bytes ≡ front_bytes stored alarms trust marks ++ rest
 
 -- a name, the first watched epoch, a key, and the number of changes
 pub record BeginsWithName (bytes name : Octets) (since : ℕ) (key : Octets) (count : ℕ) (rest : Octets) : Type 0 where
@@ -75,36 +75,36 @@ pub record BeginsWithName (bytes name : Octets) (since : ℕ) (key : Octets) (co
   pub same : bytes ≡ watched_bytes name since key ++ to_be_bytes w32 count ++ rest
 
 -- bytes are this number of changes, which may follow a key and an epoch
-pub record AreChanges (kept : List Kept) (from : ℕ) (key : Octets) (count : ℕ) (bytes : Octets) (changes : List SavedChange) : Type 0 where
+pub record AreChanges (stored : List StoredEntry) (from : ℕ) (key : Octets) (count : ℕ) (bytes : Octets) (changes : List SavedChange) : Type 0 where
   pub size : length changes ≡ count
   pub same : bytes ≡ flat_map change_bytes changes
   pub sized : All IsSizedChange changes
   pub order : AreOrdered from changes
   pub distinct : AreDistinct key changes
-  pub clear : All (IsClear kept) changes
+  pub clear : All (IsClear stored) changes
 
 -- bytes are such changes
-pub record HasChanges (kept : List Kept) (from : ℕ) (key : Octets) (count : ℕ) (bytes : Octets) : Type 0 where
+pub record HasChanges (stored : List StoredEntry) (from : ℕ) (key : Octets) (count : ℕ) (bytes : Octets) : Type 0 where
   pub changes : List SavedChange
-  pub are : AreChanges kept from key count bytes changes
+  pub are : AreChanges stored from key count bytes changes
 
--- a change may be the next one after an epoch and a key, beside the kept epochs
-pub record MayFollow (kept : List Kept) (from : ℕ) (key : Octets) (change : SavedChange) : Type 0 where
+-- a change may be the next one after an epoch and a key, beside the stored epochs
+pub record MayFollow (stored : List StoredEntry) (from : ℕ) (key : Octets) (change : SavedChange) : Type 0 where
   pub after : from ≤ change.last_old
   pub later : change.last_old < change.first_new
   pub other : key ≢ change.key
-  pub clear : IsClear kept change
+  pub clear : IsClear stored change
 
--- after the kind, bytes are a watched name, with changes that a client can have beside these kept epochs
-pub record IsWatched (kept : List Kept) (watch : SavedWatch) (bytes : Octets) : Type 0 where
+-- after the kind, bytes are a watched name, with changes that a client can have beside these stored epochs
+pub record IsWatched (stored : List StoredEntry) (watch : SavedWatch) (bytes : Octets) : Type 0 where
   pub sized : IsSizedWatch watch
-  pub formed : AreFormed kept watch.key watch.changes
+  pub formed : AreFormed stored watch.key watch.changes
   pub same : bytes ≡ watched_bytes watch.name watch.since watch.key ++ to_be_bytes w32 (length watch.changes) ++ flat_map change_bytes watch.changes
 
 -- bytes are a watch, or that there is none
-pub record IsWatch (kept : List Kept) (watch : Option SavedWatch) (bytes : Octets) : Type 0 where
+pub record IsWatch (stored : List StoredEntry) (watch : Option SavedWatch) (bytes : Octets) : Type 0 where
   pub sized : AreSized watch
-  pub formed : IsFormedWatch kept watch
+  pub formed : IsFormedWatch stored watch
   pub same : bytes ≡ watch_bytes watch
 
 -- bytes are what is between the policy digest and the digest of a state that a client can have

@@ -4,9 +4,9 @@ use Rattle.coniks_proof.specs.Octets.{Octets}
 use Rattle.coniks_quorum.specs.StateForms.{AreSized}
 use Rattle.coniks_quorum.specs.Saved.{SavedState, body_bytes}
 
--- fewer than 2^32 kept epochs, alarms, marks and changes, keys below 2^32 bytes, and a name of 1 to 255 bytes
+-- fewer than 2^32 stored epochs, alarms, marks and changes, keys below 2^32 bytes, and a name of 1 to 255 bytes
 pub record HasState (state : SavedState) : Type 0 where
-  pub few : length state.kept < 2 ^ 32
+  pub few : length state.stored < 2 ^ 32
   pub few_alarms : length state.alarms < 2 ^ 32
   pub few_marks : length state.marks < 2 ^ 32
   pub watch : AreSized state.watch

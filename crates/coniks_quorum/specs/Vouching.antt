@@ -7,7 +7,7 @@ use Rattle.coniks_proof.specs.declared.values.Head.{Head}
 use Rattle.coniks_chain.specs.Entries.{entry_from, link_preimage}
 use Rattle.coniks_chain.specs.declared.entry.Entry.{Entry}
 use Rattle.coniks_client.specs.Feeding.{IsRefusedAlone, IsVerified}
-use Rattle.coniks_client.specs.declared.kept.Kept.{Kept}
+use Rattle.coniks_client.specs.declared.stored.StoredEntry.{StoredEntry}
 use Rattle.coniks_quorum.specs.Auditors.{Auditor, WasCosigned}
 use Rattle.coniks_quorum.specs.Clients.{IsClient}
 use Rattle.coniks_quorum.specs.Marks.{marks_of}
@@ -62,6 +62,6 @@ IsRefusedStart hash verdict policy heads quorum bytes NotVouched =
 
 -- the marks that these heads give are right for the first entry, if the auditors cosigned the heads
 abbrev pub StartLaw : Type 0
-StartLaw = (hash : Octets → Octets) (auditors : List Auditor) (mine : Kept) (heads : List (Option Head))
+StartLaw = (hash : Octets → Octets) (auditors : List Auditor) (mine : StoredEntry) (heads : List (Option Head))
     → length heads ≡ length auditors → ((i : ℕ) (head : Head) → slice_get heads i ≡ Some (Some head) → WasCosigned auditors i head)
     → IsClient hash auditors [] (mine ∷ []) (marks_of hash (mine ∷ []) heads)

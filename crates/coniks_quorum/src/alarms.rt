@@ -3,7 +3,7 @@
 ghost use Rattle.std.specs.Prelude.{◌≡◌, ◌<◌, ◌≤◌, ◌+◌, count_by, length, set};
 ghost use Rattle.coniks_quorum.specs.Alarms.{AreNoted, IsAppended, alarm_at, alarms_of, is_alarming};
 
-use coniks_client::kept::Kept;
+use coniks_client::stored::StoredEntry;
 use coniks_client::watching::SAME;
 
 /// A dropped watched epoch that was not seen as the same.
@@ -17,14 +17,14 @@ pub struct Alarm {
 }
 
 /// Returns whether an epoch leaves an alarm when it is dropped.
-fn is_alarming(since: u64, mine: &Kept) -> bool
+fn is_alarming(since: u64, mine: &StoredEntry) -> bool
     ensures { result ≡ is_alarming since mine.now }
 {
     since <= mine.epoch() && mine.seen != SAME
 }
 
 /// Returns the alarm of an epoch.
-fn alarm_at(mine: &Kept) -> Alarm
+fn alarm_at(mine: &StoredEntry) -> Alarm
     ensures { result ≡ alarm_at mine.now }
 {
     Alarm {
@@ -34,7 +34,7 @@ fn alarm_at(mine: &Kept) -> Alarm
 }
 
 /// Returns the number of epochs that leave an alarm.
-fn alarming(since: u64, dropped: &[Kept]) -> usize
+fn alarming(since: u64, dropped: &[StoredEntry]) -> usize
     ensures { result ≡ count_by (is_alarming since) dropped.now }
 {
     dropped
@@ -44,7 +44,7 @@ fn alarming(since: u64, dropped: &[Kept]) -> usize
 }
 
 /// Returns the number of alarms that epochs leave when they are dropped. `since` is the first watched epoch.
-pub fn alarms_in(since: u64, dropped: &[Kept]) -> usize
+pub fn alarms_in(since: u64, dropped: &[StoredEntry]) -> usize
     ensures { result ≡ length (alarms_of since dropped.now) }
 {
     alarming(since, dropped)
@@ -61,7 +61,12 @@ fn set_alarm(alarms: &mut [Alarm], place: usize, alarm: Alarm)
 /// Writes the alarms that epochs leave after the first `count` ones, and returns the number of all.
 ///
 /// `since` is the first watched epoch. There is room for them: [`alarms_in`] says how many they are.
-pub fn append_alarms(since: u64, dropped: &[Kept], alarms: &mut [Alarm], count: usize) -> usize
+pub fn append_alarms(
+    since: u64,
+    dropped: &[StoredEntry],
+    alarms: &mut [Alarm],
+    count: usize,
+) -> usize
     requires { count + length (alarms_of since dropped.now) ≤ length alarms.old }
     ensures { IsAppended alarms.old alarms.new count (alarms_of since dropped.now) result }
 {

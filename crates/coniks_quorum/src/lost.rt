@@ -3,7 +3,7 @@
 ghost use Rattle.std.specs.Prelude.{◌≡◌, ◌<◌, length};
 ghost use Rattle.coniks_quorum.specs.Lost.{epoch_after, is_lost, is_over, lost_at};
 
-use coniks_client::kept::Kept;
+use coniks_client::stored::StoredEntry;
 use coniks_client::times::{Clock, Present, begins_at};
 
 /// How long a policy promises proofs of a past epoch.
@@ -11,7 +11,7 @@ use coniks_client::times::{Clock, Present, begins_at};
 pub enum Promise {
     /// Forever. Use this also if the client has only the policy's digest.
     Forever,
-    /// For this many seconds after the next kept epoch begins.
+    /// For this many seconds after the next stored epoch begins.
     Seconds(u64),
 }
 
@@ -27,7 +27,7 @@ fn is_over(clock: &Option<Clock>, time: u64, seconds: u64, next: u64) -> bool
 
 /// Returns whether a missing epoch is lost: the policy promises no proof of it any more.
 ///
-/// `next` is the number of the next kept epoch, `None` if the missing epoch is the latest one, which is never lost. A lost epoch
+/// `next` is the number of the next stored epoch, `None` if the missing epoch is the latest one, which is never lost. A lost epoch
 /// stays missing, and a reply for it is still accepted.
 pub fn is_lost(present: &Present, promise: &Promise, next: Option<u64>) -> bool
     ensures { result ≡ is_lost present.now promise.now next }
@@ -40,21 +40,26 @@ pub fn is_lost(present: &Present, promise: &Promise, next: Option<u64>) -> bool
     }
 }
 
-/// Returns the number of the kept epoch after a place.
-fn epoch_after(kept: &[Kept], place: usize) -> Option<u64>
-    requires { place < length kept.now }
-    ensures { result ≡ epoch_after kept.now place }
+/// Returns the number of the stored epoch after a place.
+fn epoch_after(stored: &[StoredEntry], place: usize) -> Option<u64>
+    requires { place < length stored.now }
+    ensures { result ≡ epoch_after stored.now place }
 {
-    match kept.get(place + 1) {
+    match stored.get(place + 1) {
         Some(next) => Some(next.epoch()),
         None => None,
     }
 }
 
-/// Returns whether the kept epoch of a place is lost, if it is missing.
-pub(crate) fn lost_at(present: &Present, promise: &Promise, kept: &[Kept], place: usize) -> bool
-    requires { place < length kept.now }
-    ensures { result ≡ lost_at present.now promise.now kept.now place }
+/// Returns whether the stored epoch of a place is lost, if it is missing.
+pub(crate) fn lost_at(
+    present: &Present,
+    promise: &Promise,
+    stored: &[StoredEntry],
+    place: usize,
+) -> bool
+    requires { place < length stored.now }
+    ensures { result ≡ lost_at present.now promise.now stored.now place }
 {
-    is_lost(present, promise, epoch_after(kept, place))
+    is_lost(present, promise, epoch_after(stored, place))
 }

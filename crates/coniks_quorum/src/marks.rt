@@ -4,14 +4,14 @@ ghost use Rattle.std.specs.Prelude.{◌≡◌, ◌<◌, ◌++◌, ℕ, List, IfN
 ghost use Rattle.coniks_proof.specs.Octets.{Octets};
 ghost use Rattle.coniks_client.specs.Comparing.{Compares};
 ghost use Rattle.coniks_client.specs.Feeding.{IsSignedAgain};
-ghost use Rattle.coniks_client.specs.Kept.{entry_in, epoch_in};
+ghost use Rattle.coniks_client.specs.StoredEntry.{entry_in, epoch_in};
 ghost use Rattle.coniks_client.specs.Steps.{with_latest};
-ghost use Rattle.coniks_client.specs.declared.kept.Kept.{Kept as KeptOne};
+ghost use Rattle.coniks_client.specs.declared.stored.StoredEntry.{StoredEntry as StoredOne};
 ghost use Rattle.coniks_quorum.specs.Auditors.{Auditor, WasCosigned};
 ghost use Rattle.coniks_quorum.specs.Marks.{AreMarks, IsBetter, IsGreatest, IsRaised, ReachesNone, Remembers, reaching, unmarked};
 
 use coniks_client::comparing::{Comparison, compare};
-use coniks_client::kept::Kept;
+use coniks_client::stored::StoredEntry;
 use coniks_proof::{Hash32, Head};
 
 /// Returns the number of marks at an epoch or a later one.
@@ -65,30 +65,43 @@ fn raise(marks: &mut [u64], place: usize, epoch: u64)
     marks[place] = marks[place].max(epoch);
 }
 
-/// Compares an auditor's head with the kept entries, and raises the auditor's mark to its epoch if they are equal.
+/// Raises the mark of an auditor to the epoch of its head, if the head was found equal to that of a stored entry.
+pub fn remember(marks: &mut [u64], place: usize, head: &Head, found: &Comparison)
+    requires { place < length marks.old }
+    ensures remembers { Remembers marks.old marks.new place head.now.epoch found.now }
+
+    // If the auditor cosigned the head, right marks stay right. They speak of all accepted entries, also of the dropped ones.
+    ensures right { (hash : Octets → Octets) (stored : List StoredOne) → Compares hash stored head.now found.now
+        → (auditors : List Auditor) (dropped : List StoredOne) → WasCosigned auditors place head.now
+        → AreMarks hash auditors (dropped ++ stored) marks.old → AreMarks hash auditors (dropped ++ stored) marks.new }
+{
+    if let Comparison::Equal(_) = found {
+        raise(marks, place, head.epoch);
+    }
+}
+
+/// Compares an auditor's head with the stored entries, and raises the auditor's mark to its epoch if they are equal.
 ///
 /// `place` is that of the auditor. A head that differs or is unknown changes no mark. A head at a dropped epoch is unknown, so
 /// compare heads before entries are dropped.
 pub fn mark<H: Hash32>(
     h: &H,
-    kept: &[Kept],
+    stored: &[StoredEntry],
     marks: &mut [u64],
     place: usize,
     head: &Head,
 ) -> Comparison
     requires { place < length marks.old }
-    ensures compares { Compares (H.digest_of h.now) kept.now head.now result }
+    ensures compares { Compares (H.digest_of h.now) stored.now head.now result }
     ensures remembers { Remembers marks.old marks.new place head.now.epoch result }
 
     // If the auditor cosigned the head, right marks stay right. They speak of all accepted entries, also of the dropped ones.
-    ensures right { (auditors : List Auditor) (dropped : List KeptOne) → WasCosigned auditors place head.now
-        → AreMarks (H.digest_of h.now) auditors (dropped ++ kept.now) marks.old
-        → AreMarks (H.digest_of h.now) auditors (dropped ++ kept.now) marks.new }
+    ensures right { (auditors : List Auditor) (dropped : List StoredOne) → WasCosigned auditors place head.now
+        → AreMarks (H.digest_of h.now) auditors (dropped ++ stored.now) marks.old
+        → AreMarks (H.digest_of h.now) auditors (dropped ++ stored.now) marks.new }
 {
-    let found = compare(h, kept, head);
-    if let Comparison::Equal(_) = found {
-        raise(marks, place, head.epoch);
-    }
+    let found = compare(h, stored, head);
+    remember(marks, place, head, &found);
     found
 }
 
@@ -115,9 +128,9 @@ pub fn unmark(marks: &mut [u64], epoch: u64)
     ensures unmarked { marks.new ≡ map (unmarked epoch) marks.old }
 
     // Right marks are then right of the chain in which the latest entry has its new signature.
-    ensures right { (hash : Octets → Octets) (auditors : List Auditor) (dropped kept : List KeptOne) (latest mine : KeptOne)
-        → IsSignedAgain kept latest (entry_in mine) → epoch_in latest ≡ epoch
-        → AreMarks hash auditors (dropped ++ kept) marks.old → AreMarks hash auditors (dropped ++ with_latest kept mine) marks.new }
+    ensures right { (hash : Octets → Octets) (auditors : List Auditor) (dropped stored : List StoredOne) (latest mine : StoredOne)
+        → IsSignedAgain stored latest (entry_in mine) → epoch_in latest ≡ epoch
+        → AreMarks hash auditors (dropped ++ stored) marks.old → AreMarks hash auditors (dropped ++ with_latest stored mine) marks.new }
 {
     unmark_each(marks, epoch);
 }

@@ -2,10 +2,10 @@
 
 ghost use Rattle.std.specs.Prelude.{◌≡◌, ◌≤◌, ℕ, List, Option, Some, slice_get};
 ghost use Rattle.coniks_proof.specs.Octets.{Octets};
-ghost use Rattle.coniks_client.specs.Kept.{IsChain, epoch_in};
+ghost use Rattle.coniks_client.specs.StoredEntry.{IsChain, epoch_in};
 ghost use Rattle.coniks_client.specs.Owner.{IsSame, IsWatched, IsWatcher, Scheme};
 ghost use Rattle.coniks_client.specs.declared.changes.Change.{Change};
-ghost use Rattle.coniks_client.specs.declared.kept.Kept.{Kept as KeptOne};
+ghost use Rattle.coniks_client.specs.declared.stored.StoredEntry.{StoredEntry as StoredOne};
 ghost use Rattle.coniks_quorum.specs.Alarms.{AreLogged};
 ghost use Rattle.coniks_quorum.specs.Reporting.{Reports, ReportsSame};
 ghost use Rattle.coniks_quorum.specs.declared.reporting.Span.{Span as SpanOne};
@@ -24,14 +24,14 @@ pub struct Span {
 /// What an owner's client reports of its name: the first in declaration order that applies.
 #[derive(Clone, Copy, Debug, PartialEq, Eq)]
 pub enum Report {
-    /// This epoch shows another key, or no key. It is the first such one: that of an alarm, else a kept one.
+    /// This epoch shows another key, or no key. It is the first such one: that of an alarm, else a stored one.
     Changed(u64),
-    /// This kept epoch is missing, and not lost. It is the first such one.
+    /// This stored epoch is missing, and not lost. It is the first such one.
     Missing(u64),
-    /// This epoch is lost, or was when it was dropped. It is the first such one: that of an alarm, else a kept one. Each missing
+    /// This epoch is lost, or was when it was dropped. It is the first such one: that of an alarm, else a stored one. Each missing
     /// epoch is lost.
     Lost(u64),
-    /// There is no alarm, and no kept epoch is watched.
+    /// There is no alarm, and no stored epoch is watched.
     Unwatched,
     /// There is no alarm, and each of these epochs shows the expected key, but no quorum of auditors confirms the latest one.
     Unconfirmed(Span),
@@ -43,7 +43,7 @@ pub enum Report {
 fn report_same(view: &View<'_>, confirmed: Option<u64>) -> Report
     ensures { ReportsSame view.now confirmed result }
 {
-    let Some(latest) = view.kept.last() else {
+    let Some(latest) = view.stored.last() else {
         return Report::Unwatched;
     };
     let Some(from) = first_seen(view, Sight::Same) else {
@@ -65,10 +65,10 @@ pub fn report_of(view: &View<'_>, confirmed: Option<u64>) -> Report
 
     // `Good` is returned only if the premises of the owner law hold of these epochs, and of the dropped ones whose alarms would be there.
     ensures good { (hash : Octets → Octets) (scheme : Scheme) (name : Octets) (key : Option Octets) (changes : List Change) (span : SpanOne)
-        → result ≡ Good span → IsChain hash view.now.kept.now → IsWatched hash scheme name key changes view.now.kept.now
-        → IsWatcher hash scheme name key changes span.from span.to view.now.kept.now }
-    ensures past { (span : SpanOne) (from : ℕ) (dropped : List KeptOne) → result ≡ Good span → AreLogged from dropped view.now.alarms.now
-        → (k : ℕ) (mine : KeptOne) → slice_get dropped k ≡ Some mine → from ≤ epoch_in mine → IsSame mine.seen }
+        → result ≡ Good span → IsChain hash view.now.stored.now → IsWatched hash scheme name key changes view.now.stored.now
+        → IsWatcher hash scheme name key changes span.from span.to view.now.stored.now }
+    ensures past { (span : SpanOne) (from : ℕ) (dropped : List StoredOne) → result ≡ Good span → AreLogged from dropped view.now.alarms.now
+        → (k : ℕ) (mine : StoredOne) → slice_get dropped k ≡ Some mine → from ≤ epoch_in mine → IsSame mine.seen }
 {
     if let Some(epoch) = first_of(view, Sight::Other) {
         return Report::Changed(epoch);

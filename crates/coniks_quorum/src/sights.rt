@@ -1,20 +1,20 @@
 //! What an owner's client has seen of its name.
 
 ghost use Rattle.std.specs.Prelude.{◌≡◌, ◌<◌, IfNone, IfSome, Some, length, slice_get};
-ghost use Rattle.coniks_client.specs.declared.kept.Kept.{Kept as KeptOne};
+ghost use Rattle.coniks_client.specs.declared.stored.StoredEntry.{StoredEntry as StoredOne};
 ghost use Rattle.coniks_quorum.specs.Sights.{AlarmsNone, IsFirstAlarm, IsFirstOf, IsFirstSeen, IsNowhere, SeesNone, alarm_sight, number_sight, sight_of};
 
 use crate::alarms::Alarm;
 use crate::lost::{Promise, lost_at};
-use coniks_client::kept::Kept;
+use coniks_client::stored::StoredEntry;
 use coniks_client::times::Present;
 use coniks_client::watching::{ABSENT, CHANGED, SAME};
 
 /// The part of an owner's state that the report depends on.
 #[derive(Clone, Copy)]
 pub struct View<'a> {
-    /// The kept epochs.
-    pub kept: &'a [Kept],
+    /// The stored epochs.
+    pub stored: &'a [StoredEntry],
     /// The alarms of dropped epochs of which the owner has not taken note.
     pub alarms: &'a [Alarm],
     /// The first watched epoch.
@@ -51,32 +51,32 @@ fn number_sight(number: u8, lost: bool) -> Sight
     }
 }
 
-/// Returns the sight of a kept epoch.
-fn sight_of(view: &View<'_>, place: usize, mine: &Kept) -> Sight
-    requires { place < length view.now.kept.now }
+/// Returns the sight of a stored epoch.
+fn sight_of(view: &View<'_>, place: usize, mine: &StoredEntry) -> Sight
+    requires { place < length view.now.stored.now }
     ensures { result ≡ sight_of view.now place mine.now }
 {
     if mine.epoch() < view.since {
         return Sight::Before;
     }
-    let lost = lost_at(&view.present, &view.promise, view.kept, place);
+    let lost = lost_at(&view.present, &view.promise, view.stored, place);
     number_sight(mine.seen, lost)
 }
 
-/// Returns what the client has seen at the kept epoch of a place.
+/// Returns what the client has seen at the stored epoch of a place.
 pub fn sight_at(view: &View<'_>, place: usize) -> Sight
-    requires { place < length view.now.kept.now }
-    ensures { (mine : KeptOne) → slice_get view.now.kept.now place ≡ Some mine → result ≡ sight_of view.now place mine }
+    requires { place < length view.now.stored.now }
+    ensures { (mine : StoredOne) → slice_get view.now.stored.now place ≡ Some mine → result ≡ sight_of view.now place mine }
 {
-    sight_of(view, place, &view.kept[place])
+    sight_of(view, place, &view.stored[place])
 }
 
-/// Returns the number of the first kept epoch that has this sight.
+/// Returns the number of the first stored epoch that has this sight.
 pub(crate) fn first_seen(view: &View<'_>, sight: Sight) -> Option<u64>
     ensures some { IfSome result (λ epoch. IsFirstSeen view.now sight epoch) }
     ensures none { IfNone result (SeesNone view.now sight) }
 {
-    for (place, mine) in view.kept.iter().enumerate() {
+    for (place, mine) in view.stored.iter().enumerate() {
         if sight_of(view, place, mine) == sight {
             return Some(mine.epoch());
         }
@@ -104,7 +104,7 @@ fn first_alarm(view: &View<'_>, sight: Sight) -> Option<u64>
     None
 }
 
-/// Returns the number of the first epoch that has this sight: that of an alarm, else a kept one.
+/// Returns the number of the first epoch that has this sight: that of an alarm, else a stored one.
 pub(crate) fn first_of(view: &View<'_>, sight: Sight) -> Option<u64>
     ensures some { IfSome result (λ epoch. IsFirstOf view.now sight epoch) }
     ensures none { IfNone result (IsNowhere view.now sight) }

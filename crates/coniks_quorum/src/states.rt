@@ -5,9 +5,9 @@
 //! | To | Call |
 //! |---|---|
 //! | write a client's state | [`has_state`], [`state_size`], [`write`] |
-//! | read one | [`read`]: its kept epochs, alarms, watched name and changes are in the right form |
-//! | verify its chain | [`restore`]: after it, the kept epochs are a chain of entries of the directory |
-//! | go on as a client | [`State::copy_kept`], [`State::copy_alarms`], [`State::copy_marks`] and [`Watched::copy_changes`] into slices of the caller, and the calls of `coniks_client` |
+//! | read one | [`read`]: its stored epochs, alarms, watched name and changes are in the right form |
+//! | verify its chain | [`restore`]: after it, the stored epochs are a chain of entries of the directory |
+//! | go on as a client | [`State::copy_stored`], [`State::copy_alarms`], [`State::copy_marks`] and [`Watched::copy_changes`] into slices of the caller, and the calls of `coniks_client` |
 //!
 //! [`laws::states`] says that bytes are those of one client at most, and [`laws::clients`] what a client that was read may rely on.
 
@@ -22,7 +22,7 @@ pub mod state;
 pub mod writing;
 
 pub use client::Client;
-pub use parts::{ALARM_BYTES, KEPT_BYTES, MARK_BYTES};
+pub use parts::{ALARM_BYTES, MARK_BYTES, STORED_BYTES};
 pub use reading::{StateFault, read};
 pub use restoring::{StateChain, restore};
 pub use sizes::{has_state, state_size};

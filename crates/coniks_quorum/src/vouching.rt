@@ -3,13 +3,13 @@
 ghost use Rattle.std.specs.Prelude.{◌≡◌, ◌<◌, ℕ, [], ◌∷◌, IfErr, IfNone, IfOk, IfSome, OnOk, length};
 ghost use Rattle.std.specs.Int.{to_be_bytes, w64};
 ghost use Rattle.coniks_chain.specs.Entries.{entry_from};
-ghost use Rattle.coniks_client.specs.Kept.{epoch_in};
+ghost use Rattle.coniks_client.specs.StoredEntry.{epoch_in};
 ghost use Rattle.coniks_quorum.specs.Marks.{IsGreatest, marks_of};
 ghost use Rattle.coniks_quorum.specs.Vouching.{Begins, IsRefusedStart, IsUnvouched, IsVouched, differing, has_other, has_same, head_of, vouching};
 
 use coniks_chain::{ENTRY_BYTES, Entry, Verify, link};
 use coniks_client::feeding::{EntryFault, verified};
-use coniks_client::kept::Kept;
+use coniks_client::stored::StoredEntry;
 use coniks_client::watching::UNWATCHED;
 use coniks_proof::{Hash32, Head};
 
@@ -31,6 +31,15 @@ pub struct Vouchers<'a> {
     pub heads: &'a [Option<Head>],
     /// The quorum of the auditors, as `quorum_of` returns it.
     pub quorum: usize,
+}
+
+/// Who verifies the first entry of a client: the caller's hash and signature scheme, for a policy.
+#[derive(Drop)]
+pub struct StartVerifier<'a, H, V> {
+    pub hash: &'a H,
+    pub signatures: &'a V,
+    /// The policy digest of the directory.
+    pub policy: &'a [u8; 32],
 }
 
 /// Returns the head of an entry.
@@ -100,33 +109,31 @@ fn vouch_fault(own: &Head, vouchers: &Vouchers<'_>) -> Option<StartFault>
 ///
 /// `OfEntry` if the bytes are no entry of this directory, then `AuditorsDiffer`, then `NotVouched`.
 pub fn vouched<H: Hash32, V: Verify>(
-    h: &H,
-    policy: &[u8; 32],
+    by: &StartVerifier<'_, H, V>,
     vouchers: &Vouchers<'_>,
     bytes: &[u8],
-    verify: &V,
     now: u64,
-) -> Result<Kept, StartFault>
+) -> Result<StoredEntry, StartFault>
     requires { 0 < vouchers.now.quorum }
-    ensures ok { OnOk result (Begins (H.digest_of h.now) (V.verdict_of verify.now) policy.now vouchers.now.heads.now vouchers.now.quorum bytes.now) }
+    ensures ok { OnOk result (Begins (H.digest_of by.now.hash.now) (V.verdict_of by.now.signatures.now) by.now.policy.now vouchers.now.heads.now vouchers.now.quorum bytes.now) }
     ensures entry { IfOk result (λ mine. mine.entry ≡ bytes.now) }
     ensures time { IfOk result (λ mine. mine.first_seen ≡ to_be_bytes w64 now) }
     ensures seen { IfOk result (λ mine. mine.seen ≡ 0) }
-    ensures err { IfErr result (λ fault. IsRefusedStart (H.digest_of h.now) (V.verdict_of verify.now) policy.now vouchers.now.heads.now vouchers.now.quorum bytes.now fault) }
+    ensures err { IfErr result (λ fault. IsRefusedStart (H.digest_of by.now.hash.now) (V.verdict_of by.now.signatures.now) by.now.policy.now vouchers.now.heads.now vouchers.now.quorum bytes.now fault) }
 
     // The greatest epoch that the marks of these heads confirm is that of the entry.
-    ensures confirmed { IfOk result (λ mine. IsGreatest (marks_of (H.digest_of h.now) (mine ∷ []) vouchers.now.heads.now) vouchers.now.quorum (epoch_in mine)) }
+    ensures confirmed { IfOk result (λ mine. IsGreatest (marks_of (H.digest_of by.now.hash.now) (mine ∷ []) vouchers.now.heads.now) vouchers.now.quorum (epoch_in mine)) }
 {
     let Ok(whole) = <&[u8; ENTRY_BYTES]>::try_from(bytes) else {
         return Err(StartFault::OfEntry(EntryFault::EntryLength));
     };
-    let entry = match verified(policy, &[], bytes, verify) {
+    let entry = match verified(by.policy, &[], bytes, by.signatures) {
         Ok(entry) => entry,
         Err(fault) => return Err(StartFault::OfEntry(fault)),
     };
-    match vouch_fault(&head_of(h, &entry), vouchers) {
+    match vouch_fault(&head_of(by.hash, &entry), vouchers) {
         Some(fault) => Err(fault),
-        None => Ok(Kept {
+        None => Ok(StoredEntry {
             entry: *whole,
             first_seen: now.to_be_bytes(),
             seen: UNWATCHED,

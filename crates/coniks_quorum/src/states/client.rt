@@ -2,10 +2,10 @@
 
 use crate::alarms::Alarm;
 use coniks_client::changes::Change;
-use coniks_client::kept::Kept;
+use coniks_client::stored::StoredEntry;
 use coniks_client::watching::Watch;
 
-/// A client of a policy: the kept epochs, the alarms of dropped ones, the marks of its auditors, and the watched name, if there is one,
+/// A client of a policy: the stored epochs, the alarms of dropped ones, the marks of its auditors, and the watched name, if there is one,
 /// with the changes of its key.
 ///
 /// Without a watched name there are no changes and no alarms.
@@ -13,8 +13,8 @@ use coniks_client::watching::Watch;
 pub struct Client<'a> {
     /// The digest of the policy.
     pub policy: &'a [u8; 32],
-    /// The kept epochs, in the order of the chain.
-    pub kept: &'a [Kept],
+    /// The stored epochs, in the order of the chain.
+    pub stored: &'a [StoredEntry],
     /// The alarms, in the order of their epochs.
     pub alarms: &'a [Alarm],
     /// The SHA-256 of the trust document, 32 zero bytes without one.

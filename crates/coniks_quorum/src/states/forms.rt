@@ -1,15 +1,15 @@
-//! Whether the kept epochs and the changes of a state have a form that a client can have.
+//! Whether the stored epochs and the changes of a state have a form that a client can have.
 
 ghost use Rattle.std.specs.Prelude.{◌≡◌, ◌↔◌, All, IsTrue, length, map};
 ghost use Rattle.coniks_quorum.specs.StateForms.{AlarmFits, Fits, IsAlarming, IsClear, IsClearAt, IsOutside, IsSeen};
 ghost use Rattle.coniks_quorum.specs.StateReading.{HasChanges, MayFollow};
-ghost use Rattle.coniks_quorum.specs.Saved.{alarm_from, kept_from, mark_from, saved_change};
+ghost use Rattle.coniks_quorum.specs.Saved.{alarm_from, stored_from, mark_from, saved_change};
 
 use crate::alarms::Alarm;
-use crate::states::parts::{ALARM_BYTES, KEPT_BYTES, MARK_BYTES, Named, split_change};
+use crate::states::parts::{ALARM_BYTES, MARK_BYTES, Named, STORED_BYTES, split_change};
 use coniks_chain::ENTRY_BYTES;
 use coniks_client::changes::Change;
-use coniks_client::kept::Kept;
+use coniks_client::stored::StoredEntry;
 use coniks_client::watching::{ABSENT, CHANGED, MISSING, SAME, UNWATCHED};
 
 /// Returns the bytes of a slice as an array.
@@ -22,14 +22,14 @@ fn part<const N: usize>(bytes: &[u8]) -> [u8; N]
     array
 }
 
-/// Returns the kept epoch that 218 bytes are.
-pub(crate) fn kept_from(bytes: &[u8; KEPT_BYTES]) -> Kept
-    ensures { result ≡ kept_from bytes.now }
+/// Returns the stored epoch that 218 bytes are.
+pub(crate) fn stored_from(bytes: &[u8; STORED_BYTES]) -> StoredEntry
+    ensures { result ≡ stored_from bytes.now }
 {
-    Kept {
+    StoredEntry {
         entry: part(&bytes[..ENTRY_BYTES]),
-        first_seen: part(&bytes[ENTRY_BYTES..KEPT_BYTES - 1]),
-        seen: bytes[KEPT_BYTES - 1],
+        first_seen: part(&bytes[ENTRY_BYTES..STORED_BYTES - 1]),
+        seen: bytes[STORED_BYTES - 1],
     }
 }
 
@@ -58,18 +58,18 @@ fn is_outside(epoch: u64, change: &Change<'_>) -> bool
 }
 
 /// Returns whether an epoch did not show the same, or is outside the window of a change.
-fn is_clear_at(bytes: &[u8; KEPT_BYTES], change: &Change<'_>) -> bool
-    ensures { IsTrue result ↔ IsClearAt (saved_change change.now) (kept_from bytes.now) }
+fn is_clear_at(bytes: &[u8; STORED_BYTES], change: &Change<'_>) -> bool
+    ensures { IsTrue result ↔ IsClearAt (saved_change change.now) (stored_from bytes.now) }
 {
-    let mine = kept_from(bytes);
+    let mine = stored_from(bytes);
     mine.seen != SAME || is_outside(mine.epoch(), change)
 }
 
 /// Returns whether no epoch that showed the same is inside the window of a change.
-fn is_clear(kept: &[[u8; KEPT_BYTES]], change: &Change<'_>) -> bool
-    ensures { IsTrue result ↔ IsClear (map kept_from kept.now) (saved_change change.now) }
+fn is_clear(stored: &[[u8; STORED_BYTES]], change: &Change<'_>) -> bool
+    ensures { IsTrue result ↔ IsClear (map stored_from stored.now) (saved_change change.now) }
 {
-    for bytes in kept {
+    for bytes in stored {
         if !is_clear_at(bytes, change) {
             return false;
         }
@@ -84,11 +84,11 @@ fn is_seen(number: u8) -> bool
     number == SAME || number == CHANGED || number == ABSENT || number == MISSING
 }
 
-/// Returns whether a kept epoch has a number that it can have.
-fn fits(bytes: &[u8; KEPT_BYTES], since: Option<u64>) -> bool
-    ensures { IsTrue result ↔ Fits since (kept_from bytes.now) }
+/// Returns whether a stored epoch has a number that it can have.
+fn fits(bytes: &[u8; STORED_BYTES], since: Option<u64>) -> bool
+    ensures { IsTrue result ↔ Fits since (stored_from bytes.now) }
 {
-    let mine = kept_from(bytes);
+    let mine = stored_from(bytes);
     match since {
         None => mine.seen == UNWATCHED,
         Some(since) => {
@@ -101,11 +101,11 @@ fn fits(bytes: &[u8; KEPT_BYTES], since: Option<u64>) -> bool
     }
 }
 
-/// Returns whether each kept epoch has a number that it can have.
-pub(crate) fn all_fit(kept: &[[u8; KEPT_BYTES]], since: Option<u64>) -> bool
-    ensures { IsTrue result ↔ All (Fits since) (map kept_from kept.now) }
+/// Returns whether each stored epoch has a number that it can have.
+pub(crate) fn all_fit(stored: &[[u8; STORED_BYTES]], since: Option<u64>) -> bool
+    ensures { IsTrue result ↔ All (Fits since) (map stored_from stored.now) }
 {
-    for bytes in kept {
+    for bytes in stored {
         if !fits(bytes, since) {
             return false;
         }
@@ -144,18 +144,18 @@ pub(crate) fn alarms_fit(alarms: &[[u8; ALARM_BYTES]], since: Option<u64>) -> bo
 }
 
 /// Returns whether a change may be the next one after an epoch and a key.
-fn may_follow(kept: &[[u8; KEPT_BYTES]], from: u64, key: &[u8], change: &Change<'_>) -> bool
-    ensures { IsTrue result ↔ MayFollow (map kept_from kept.now) from key.now (saved_change change.now) }
+fn may_follow(stored: &[[u8; STORED_BYTES]], from: u64, key: &[u8], change: &Change<'_>) -> bool
+    ensures { IsTrue result ↔ MayFollow (map stored_from stored.now) from key.now (saved_change change.now) }
 {
     from <= change.last_old
         && change.last_old < change.first_new
         && key != change.key
-        && is_clear(kept, change)
+        && is_clear(stored, change)
 }
 
 /// Returns whether bytes are the changes of a name, in order.
-pub(crate) fn are_changes(kept: &[[u8; KEPT_BYTES]], named: &Named<'_>, bytes: &[u8]) -> bool
-    ensures { IsTrue result ↔ HasChanges (map kept_from kept.now) 0 named.now.key.now named.now.count bytes.now }
+pub(crate) fn are_changes(stored: &[[u8; STORED_BYTES]], named: &Named<'_>, bytes: &[u8]) -> bool
+    ensures { IsTrue result ↔ HasChanges (map stored_from stored.now) 0 named.now.key.now named.now.count bytes.now }
 {
     let mut from = 0;
     let mut key = named.key;
@@ -164,7 +164,7 @@ pub(crate) fn are_changes(kept: &[[u8; KEPT_BYTES]], named: &Named<'_>, bytes: &
         let Some((change, after)) = split_change(rest) else {
             return false;
         };
-        if !may_follow(kept, from, key, &change) {
+        if !may_follow(stored, from, key, &change) {
             return false;
         }
         from = change.first_new;

@@ -2,17 +2,17 @@
 
 ghost use Rattle.std.specs.Prelude.{◌≡◌, ◌<◌, ◌^◌, ◌++◌, ◌∷◌, ℕ, List, IfNone, IfSome, length, map};
 ghost use Rattle.std.specs.Int.{to_be_bytes, w32, w64};
-ghost use Rattle.coniks_client.specs.declared.kept.Kept.{Kept as KeptOne};
+ghost use Rattle.coniks_client.specs.declared.stored.StoredEntry.{StoredEntry as StoredOne};
 ghost use Rattle.coniks_proof.specs.Octets.{Octets};
 ghost use Rattle.coniks_quorum.specs.declared.alarms.Alarm.{Alarm as AlarmOne};
-ghost use Rattle.coniks_quorum.specs.StateForms.{IsAlarm, IsKept, IsMark};
+ghost use Rattle.coniks_quorum.specs.StateForms.{IsAlarm, IsStored, IsMark};
 ghost use Rattle.coniks_quorum.specs.StateReading.{BeginsWithChange, BeginsWithCount, BeginsWithFront, BeginsWithKey, BeginsWithName, BeginsWithParts};
-ghost use Rattle.coniks_quorum.specs.Saved.{SavedChange, alarm_bytes, alarm_from, kept_bytes, kept_from, mark_bytes, mark_from, saved_change};
+ghost use Rattle.coniks_quorum.specs.Saved.{SavedChange, alarm_bytes, alarm_from, stored_bytes, stored_from, mark_bytes, mark_from, saved_change};
 
 use coniks_client::changes::Change;
 
-/// The number of bytes of a kept epoch.
-pub const KEPT_BYTES: usize = 218;
+/// The number of bytes of a stored epoch.
+pub const STORED_BYTES: usize = 218;
 
 /// The number of bytes of an alarm.
 pub const ALARM_BYTES: usize = 9;
@@ -86,15 +86,15 @@ fn split_parts(bytes: &[u8], one: usize) -> Option<(&[u8], &[u8])>
     split_bytes(rest, count as usize * one)
 }
 
-/// Returns the kept epochs that bytes begin with, and the bytes after them.
-fn split_kept(bytes: &[u8]) -> Option<(&[[u8; KEPT_BYTES]], &[u8])>
-    ensures some { IfSome result (λ parts. BeginsWithParts kept_bytes IsKept bytes.now (map kept_from parts.0.now) parts.1.now) }
-    ensures none { IfNone result ((kept : List KeptOne) (rest : Octets) → ¬ BeginsWithParts kept_bytes IsKept bytes.now kept rest) }
+/// Returns the stored epochs that bytes begin with, and the bytes after them.
+fn split_stored(bytes: &[u8]) -> Option<(&[[u8; STORED_BYTES]], &[u8])>
+    ensures some { IfSome result (λ parts. BeginsWithParts stored_bytes IsStored bytes.now (map stored_from parts.0.now) parts.1.now) }
+    ensures none { IfNone result ((stored : List StoredOne) (rest : Octets) → ¬ BeginsWithParts stored_bytes IsStored bytes.now stored rest) }
 {
-    let Some((parts, rest)) = split_parts(bytes, KEPT_BYTES) else {
+    let Some((parts, rest)) = split_parts(bytes, STORED_BYTES) else {
         return None;
     };
-    Some((parts.as_chunks::<KEPT_BYTES>().0, rest))
+    Some((parts.as_chunks::<STORED_BYTES>().0, rest))
 }
 
 /// Returns the alarms that bytes begin with, and the bytes after them.
@@ -132,7 +132,7 @@ fn split_trust(bytes: &[u8]) -> Option<(&[u8; 32], &[u8])>
 /// The parts of a state before the watch.
 #[derive(Clone, Copy)]
 pub(crate) struct Front<'a> {
-    pub kept: &'a [[u8; KEPT_BYTES]],
+    pub stored: &'a [[u8; STORED_BYTES]],
     pub alarms: &'a [[u8; ALARM_BYTES]],
     pub trust: &'a [u8; 32],
     pub marks: &'a [[u8; MARK_BYTES]],
@@ -140,12 +140,12 @@ pub(crate) struct Front<'a> {
 
 /// Returns the parts before the watch that bytes begin with, and the bytes after them.
 pub(crate) fn split_front(bytes: &[u8]) -> Option<(Front<'_>, &[u8])>
-    ensures some { IfSome result (λ parts. BeginsWithFront bytes.now (map kept_from parts.0.kept.now) (map alarm_from parts.0.alarms.now)
+    ensures some { IfSome result (λ parts. BeginsWithFront bytes.now (map stored_from parts.0.stored.now) (map alarm_from parts.0.alarms.now)
         parts.0.trust.now (map mark_from parts.0.marks.now) parts.1.now) }
-    ensures none { IfNone result ((kept : List KeptOne) (alarms : List AlarmOne) (trust : Octets) (marks : List ℕ) (rest : Octets)
-        → ¬ BeginsWithFront bytes.now kept alarms trust marks rest) }
+    ensures none { IfNone result ((stored : List StoredOne) (alarms : List AlarmOne) (trust : Octets) (marks : List ℕ) (rest : Octets)
+        → ¬ BeginsWithFront bytes.now stored alarms trust marks rest) }
 {
-    let Some((kept, rest)) = split_kept(bytes) else {
+    let Some((stored, rest)) = split_stored(bytes) else {
         return None;
     };
     let Some((alarms, rest)) = split_alarms(rest) else {
@@ -158,7 +158,7 @@ pub(crate) fn split_front(bytes: &[u8]) -> Option<(Front<'_>, &[u8])>
         return None;
     };
     let front = Front {
-        kept,
+        stored,
         alarms,
         trust,
         marks,

@@ -5,17 +5,17 @@ ghost use Rattle.std.specs.Option.{option_map};
 ghost use Rattle.coniks_proof.specs.Octets.{Octets};
 ghost use Rattle.coniks_quorum.specs.StateForms.{AlarmFits, Fits, IsStateOf};
 ghost use Rattle.coniks_quorum.specs.StateReading.{IsNoState, IsOpened, IsRest, IsWatch, IsWatched, body_in, digest_in, policy_in};
-ghost use Rattle.coniks_quorum.specs.Saved.{SavedState, SavedWatch, alarm_from, kept_from};
+ghost use Rattle.coniks_quorum.specs.Saved.{SavedState, SavedWatch, alarm_from, stored_from};
 ghost use Rattle.coniks_quorum.specs.Says.{Says, SaysWatch, SaysWatched};
 
 use crate::states::forms::{alarms_fit, all_fit, are_changes};
-use crate::states::parts::{Front, KEPT_BYTES, Named, split_front, split_named};
+use crate::states::parts::{Front, Named, STORED_BYTES, split_front, split_named};
 use crate::states::state::{State, Watched};
 use coniks_client::watching::Watch;
 use coniks_proof::{Digest, Hash32};
 use thiserror::Error;
 
-/// The number of bytes of a state without kept epochs, alarms and marks, and without a watched name.
+/// The number of bytes of a state without stored epochs, alarms and marks, and without a watched name.
 const STATE_BYTES: usize = 110;
 
 /// The version that a state begins with.
@@ -126,23 +126,23 @@ fn watched_of<'a>(named: &Named<'a>, changes: &'a [u8]) -> Watched<'a>
 }
 
 /// Reads a watched name and its changes.
-fn read_watched<'a>(kept: &[[u8; KEPT_BYTES]], bytes: &'a [u8]) -> Option<Watched<'a>>
-    ensures some { IfSome result (λ watched. (saved : SavedWatch) × IsWatched (map kept_from kept.now) saved bytes.now × SaysWatched watched saved) }
-    ensures none { IfNone result ((saved : SavedWatch) → ¬ IsWatched (map kept_from kept.now) saved bytes.now) }
+fn read_watched<'a>(stored: &[[u8; STORED_BYTES]], bytes: &'a [u8]) -> Option<Watched<'a>>
+    ensures some { IfSome result (λ watched. (saved : SavedWatch) × IsWatched (map stored_from stored.now) saved bytes.now × SaysWatched watched saved) }
+    ensures none { IfNone result ((saved : SavedWatch) → ¬ IsWatched (map stored_from stored.now) saved bytes.now) }
 {
     let Some((named, changes)) = split_named(bytes) else {
         return None;
     };
-    if !are_changes(kept, &named, changes) {
+    if !are_changes(stored, &named, changes) {
         return None;
     }
     Some(watched_of(&named, changes))
 }
 
 /// Reads the watch: none, or a watched name and its changes.
-fn read_watch<'a>(kept: &[[u8; KEPT_BYTES]], bytes: &'a [u8]) -> Option<Option<Watched<'a>>>
-    ensures some { IfSome result (λ watch. (saved : Option SavedWatch) × IsWatch (map kept_from kept.now) saved bytes.now × SaysWatch watch saved) }
-    ensures none { IfNone result ((saved : Option SavedWatch) → ¬ IsWatch (map kept_from kept.now) saved bytes.now) }
+fn read_watch<'a>(stored: &[[u8; STORED_BYTES]], bytes: &'a [u8]) -> Option<Option<Watched<'a>>>
+    ensures some { IfSome result (λ watch. (saved : Option SavedWatch) × IsWatch (map stored_from stored.now) saved bytes.now × SaysWatch watch saved) }
+    ensures none { IfNone result ((saved : Option SavedWatch) → ¬ IsWatch (map stored_from stored.now) saved bytes.now) }
 {
     let Some((kind, rest)) = bytes.split_first() else {
         return None;
@@ -153,7 +153,7 @@ fn read_watch<'a>(kept: &[[u8; KEPT_BYTES]], bytes: &'a [u8]) -> Option<Option<W
     if *kind != WATCH {
         return None;
     }
-    match read_watched(kept, rest) {
+    match read_watched(stored, rest) {
         Some(watched) => Some(Some(watched)),
         None => None,
     }
@@ -169,11 +169,11 @@ fn since_of(watch: &Option<Watched<'_>>) -> Option<u64>
     }
 }
 
-/// Returns whether each kept epoch and each alarm has a number that it can have.
+/// Returns whether each stored epoch and each alarm has a number that it can have.
 fn front_fits(front: &Front<'_>, since: Option<u64>) -> bool
-    ensures { IsTrue result ↔ (All (Fits since) (map kept_from front.now.kept.now) × All (AlarmFits since) (map alarm_from front.now.alarms.now)) }
+    ensures { IsTrue result ↔ (All (Fits since) (map stored_from front.now.stored.now) × All (AlarmFits since) (map alarm_from front.now.alarms.now)) }
 {
-    all_fit(front.kept, since) && alarms_fit(front.alarms, since)
+    all_fit(front.stored, since) && alarms_fit(front.alarms, since)
 }
 
 /// Reads what is between the policy digest and the digest.
@@ -185,14 +185,14 @@ fn read_parts(bytes: &[u8]) -> Option<State<'_>>
     let Some((front, rest)) = split_front(bytes) else {
         return None;
     };
-    let Some(watch) = read_watch(front.kept, rest) else {
+    let Some(watch) = read_watch(front.stored, rest) else {
         return None;
     };
     if !front_fits(&front, since_of(&watch)) {
         return None;
     }
     Some(State {
-        kept: front.kept,
+        stored: front.stored,
         alarms: front.alarms,
         trust: front.trust,
         marks: front.marks,
@@ -202,7 +202,7 @@ fn read_parts(bytes: &[u8]) -> Option<State<'_>>
 
 /// Reads a client's state. The parts are borrowed from its bytes.
 ///
-/// The chain of the kept epochs is not checked. [`restore`](crate::states::restoring::restore) checks it.
+/// The chain of the stored epochs is not checked. [`restore`](crate::states::restoring::restore) checks it.
 ///
 /// # Errors
 ///

@@ -3,21 +3,21 @@
 ghost use Rattle.std.specs.Prelude.{◌≡◌, ◌↔◌, ◌-◌, ◌<◌, ℕ, true, Option, Some, IfErr, IfNone, IfSome, IsTrue, OnOk, length, map, slice_get};
 ghost use Rattle.coniks_chain.specs.Chain.{Follows, auditor_after};
 ghost use Rattle.coniks_client.specs.Feeding.{IsVerified};
-ghost use Rattle.coniks_client.specs.Kept.{IsChain, entry_in, verified_before};
-ghost use Rattle.coniks_client.specs.declared.kept.Kept.{Kept as KeptOne};
+ghost use Rattle.coniks_client.specs.StoredEntry.{IsChain, entry_in, verified_before};
+ghost use Rattle.coniks_client.specs.declared.stored.StoredEntry.{StoredEntry as StoredOne};
 ghost use Rattle.coniks_quorum.specs.Restoring.{AreVerified, IsFirstBad, IsGoodAt};
-ghost use Rattle.coniks_quorum.specs.Saved.{kept_from};
+ghost use Rattle.coniks_quorum.specs.Saved.{stored_from};
 
-use crate::states::forms::kept_from;
-use crate::states::parts::KEPT_BYTES;
+use crate::states::forms::stored_from;
+use crate::states::parts::STORED_BYTES;
 use crate::states::state::State;
-use coniks_chain::{Auditor, AuditorState, BODY_BYTES, Entry, Signature, Verify, link};
+use coniks_chain::{Auditor, BODY_BYTES, Entry, Signature, Verify, auditor_after};
 use coniks_client::feeding::verified;
-use coniks_client::kept::Kept;
+use coniks_client::stored::StoredEntry;
 use coniks_proof::Hash32;
 use thiserror::Error;
 
-/// The error of a state whose kept epochs are no chain of entries of this directory.
+/// The error of a state whose stored epochs are no chain of entries of this directory.
 #[derive(Clone, Copy, Debug, Drop, PartialEq, Eq, Error)]
 #[error("the state's kept epoch {place}, counted from 0, isn't one of this directory or doesn't follow the one before it")]
 pub struct StateChain {
@@ -29,35 +29,23 @@ pub struct StateChain {
 struct VerifiedBefore;
 
 impl Verify for VerifiedBefore {
-    ghost verdict_of = { λ told body signature. true };
+    ghost verdict_of = { λ reported body signature. true };
 
     fn verdict(&self, _body: &[u8; BODY_BYTES], _signature: &Signature) -> bool {
         true
     }
 }
 
-/// Returns the entry of a kept epoch, if it is one of this directory.
-fn own_entry<V: Verify>(policy: &[u8; 32], bytes: &[u8; KEPT_BYTES], verify: &V) -> Option<Entry>
-    ensures from { IfSome result (λ entry. entry ≡ entry_in (kept_from bytes.now)) }
-    ensures some { IfSome result (λ entry. IsVerified (V.verdict_of verify.now) policy.now (kept_from bytes.now).entry) }
-    ensures none { IfNone result (¬ IsVerified (V.verdict_of verify.now) policy.now (kept_from bytes.now).entry) }
+/// Returns the entry of a stored epoch, if it is one of this directory.
+fn own_entry<V: Verify>(policy: &[u8; 32], bytes: &[u8; STORED_BYTES], verify: &V) -> Option<Entry>
+    ensures from { IfSome result (λ entry. entry ≡ entry_in (stored_from bytes.now)) }
+    ensures some { IfSome result (λ entry. IsVerified (V.verdict_of verify.now) policy.now (stored_from bytes.now).entry) }
+    ensures none { IfNone result (¬ IsVerified (V.verdict_of verify.now) policy.now (stored_from bytes.now).entry) }
 {
-    let mine = kept_from(bytes);
+    let mine = stored_from(bytes);
     match verified(policy, &[], &mine.entry, verify) {
         Ok(entry) => Some(entry),
         Err(_) => None,
-    }
-}
-
-/// Returns what the next entry is compared with.
-fn state_after<H: Hash32>(h: &H, entry: &Entry) -> AuditorState
-    ensures { result ≡ auditor_after (H.digest_of h.now) entry.now }
-{
-    AuditorState {
-        t: entry.body.t,
-        link: link(h, entry),
-        version: entry.body.version,
-        nonce: entry.body.nonce,
     }
 }
 
@@ -72,7 +60,7 @@ fn follows<H: Hash32 + Drop>(auditor: &mut Auditor<H>, entry: &Entry) -> bool
     }
 }
 
-/// Checks that the kept epochs of a state are a chain of entries of this directory, whatever the first one follows.
+/// Checks that the stored epochs of a state are a chain of entries of this directory, whatever the first one follows.
 ///
 /// # Errors
 ///
@@ -84,18 +72,18 @@ pub fn restore<H: Hash32 + Drop, V: Verify>(
     state: &State<'_>,
     verify: &V,
 ) -> Result<(), StateChain>
-    ensures chain { OnOk result (IsChain (H.digest_of h) (map kept_from state.now.kept.now)) }
-    ensures verified { OnOk result (AreVerified (V.verdict_of verify.now) policy.now (map kept_from state.now.kept.now)) }
-    ensures err { IfErr result (λ fault. IsFirstBad (H.digest_of h) (V.verdict_of verify.now) policy.now (map kept_from state.now.kept.now) fault.place) }
+    ensures chain { OnOk result (IsChain (H.digest_of h) (map stored_from state.now.stored.now)) }
+    ensures verified { OnOk result (AreVerified (V.verdict_of verify.now) policy.now (map stored_from state.now.stored.now)) }
+    ensures err { IfErr result (λ fault. IsFirstBad (H.digest_of h) (V.verdict_of verify.now) policy.now (map stored_from state.now.stored.now) fault.place) }
 {
-    let kept = state.kept;
-    let Some((first, later)) = kept.split_first() else {
+    let stored = state.stored;
+    let Some((first, later)) = stored.split_first() else {
         return Ok(());
     };
     let Some(entry) = own_entry(policy, first, verify) else {
         return Err(StateChain { place: 0 });
     };
-    let before = state_after(&h, &entry);
+    let before = auditor_after(&h, &entry);
     let mut auditor = Auditor::resume(h, Some(before));
     for (place, bytes) in later.iter().enumerate() {
         let Some(entry) = own_entry(policy, bytes, verify) else {

@@ -2,17 +2,17 @@
 
 ghost use Rattle.std.specs.Prelude.{◌≡◌, ◌<◌, ◌≤◌, ◌^◌, ◌↔◌, ◌+◌, ◌*◌, All, IfNone, IfSome, IsTrue, Option, flat_map, length, map};
 ghost use Rattle.std.specs.Option.{option_map};
-ghost use Rattle.coniks_quorum.specs.StateForms.{AreSized, IsKept, IsSizedChange, IsSizedName, IsSizedWatch};
+ghost use Rattle.coniks_quorum.specs.StateForms.{AreSized, IsStored, IsSizedChange, IsSizedName, IsSizedWatch};
 ghost use Rattle.coniks_quorum.specs.Saved.{change_bytes, front_bytes, saved_change, saved_state, saved_watch, watch_bytes};
 ghost use Rattle.coniks_quorum.specs.StateWriting.{HasState, size_of};
 
 use crate::states::client::Client;
-use crate::states::parts::{ALARM_BYTES, KEPT_BYTES, MARK_BYTES};
+use crate::states::parts::{ALARM_BYTES, MARK_BYTES, STORED_BYTES};
 use coniks_client::changes::Change;
-use coniks_client::kept::Kept;
+use coniks_client::stored::StoredEntry;
 use coniks_client::watching::Watch;
 
-/// The largest number of kept epochs, of alarms, of marks, of changes and of a key's bytes.
+/// The largest number of stored epochs, of alarms, of marks, of changes and of a key's bytes.
 const MOST: usize = 0xffff_ffff;
 
 /// The number of bytes of a change without its key.
@@ -21,7 +21,7 @@ const CHANGE_BYTES: usize = 20;
 /// The number of bytes of the version, the policy digest and the digest.
 const PLAIN_BYTES: usize = 65;
 
-/// The number of bytes of the trust and of the numbers of kept epochs, alarms and marks.
+/// The number of bytes of the trust and of the numbers of stored epochs, alarms and marks.
 const FRONT_BYTES: usize = 44;
 
 /// The number of bytes of a watched name with its kind, without the name, the key and the changes.
@@ -73,12 +73,12 @@ fn is_sized(watch: &Option<Watch<'_>>, changes: &[Change<'_>]) -> bool
     }
 }
 
-/// Returns whether a client has a state. It has fewer than 2^32 kept epochs, alarms, marks and changes, keys below 2^32 bytes, and a
+/// Returns whether a client has a state. It has fewer than 2^32 stored epochs, alarms, marks and changes, keys below 2^32 bytes, and a
 /// watched name of 1 to 255 bytes.
 pub fn has_state(client: &Client<'_>) -> bool
     ensures { IsTrue result ↔ HasState (saved_state client.now) }
 {
-    client.kept.len() <= MOST
+    client.stored.len() <= MOST
         && client.alarms.len() <= MOST
         && client.marks.len() <= MOST
         && is_sized(&client.watch, client.changes)
@@ -120,19 +120,19 @@ fn full<const N: usize>(bytes: &[u8; N])
     let _ = bytes;
 }
 
-/// Proves that a kept epoch has the bytes of its types.
-fn known_one(mine: &Kept)
-    ensures { IsKept mine.now }
+/// Proves that a stored epoch has the bytes of its types.
+fn known_one(mine: &StoredEntry)
+    ensures { IsStored mine.now }
 {
     full(&mine.entry);
     full(&mine.first_seen);
 }
 
-/// Proves that each kept epoch has the bytes of its types.
-fn known(kept: &[Kept])
-    ensures { All IsKept kept.now }
+/// Proves that each stored epoch has the bytes of its types.
+fn known(stored: &[StoredEntry])
+    ensures { All IsStored stored.now }
 {
-    for mine in kept {
+    for mine in stored {
         known_one(mine);
     }
 }
@@ -155,12 +155,12 @@ fn product_of(a: usize, b: usize) -> Option<usize>
 
 /// Returns the number of bytes before the watch, but for the version and the policy digest, or `None` if it is 2^64 or more.
 fn front_size(client: &Client<'_>) -> Option<usize>
-    ensures some { IfSome result (λ size. size ≡ length (front_bytes client.now.kept.now client.now.alarms.now client.now.trust.now client.now.marks.now)) }
-    ensures none { IfNone result (2 ^ 64 ≤ length (front_bytes client.now.kept.now client.now.alarms.now client.now.trust.now client.now.marks.now)) }
+    ensures some { IfSome result (λ size. size ≡ length (front_bytes client.now.stored.now client.now.alarms.now client.now.trust.now client.now.marks.now)) }
+    ensures none { IfNone result (2 ^ 64 ≤ length (front_bytes client.now.stored.now client.now.alarms.now client.now.trust.now client.now.marks.now)) }
 {
-    known(client.kept);
+    known(client.stored);
     full(client.trust);
-    let Some(kept) = product_of(client.kept.len(), KEPT_BYTES) else {
+    let Some(stored) = product_of(client.stored.len(), STORED_BYTES) else {
         return None;
     };
     let Some(alarms) = product_of(client.alarms.len(), ALARM_BYTES) else {
@@ -169,7 +169,7 @@ fn front_size(client: &Client<'_>) -> Option<usize>
     let Some(marks) = product_of(client.marks.len(), MARK_BYTES) else {
         return None;
     };
-    let Some(two) = sum_of(kept, alarms) else {
+    let Some(two) = sum_of(stored, alarms) else {
         return None;
     };
     let Some(all) = sum_of(two, marks) else {

@@ -3,14 +3,14 @@
 ghost use Rattle.std.specs.Prelude.{◌≡◌, ◌<◌, ◌≤◌, IfNone, IfSome, length, map, slice_get, take};
 ghost use Rattle.std.proofs.Math.ListN.{set};
 ghost use Rattle.coniks_quorum.specs.StateForms.{IsSizedWatch};
-ghost use Rattle.coniks_quorum.specs.Saved.{SavedWatch, alarm_from, kept_from, mark_from, saved_change};
+ghost use Rattle.coniks_quorum.specs.Saved.{SavedWatch, alarm_from, stored_from, mark_from, saved_change};
 
 use crate::alarms::Alarm;
-use crate::states::forms::{alarm_from, kept_from, mark_from};
-use crate::states::parts::{ALARM_BYTES, KEPT_BYTES, MARK_BYTES, split_change};
+use crate::states::forms::{alarm_from, mark_from, stored_from};
+use crate::states::parts::{ALARM_BYTES, MARK_BYTES, STORED_BYTES, split_change};
 use crate::states::reading::are_same;
 use coniks_client::changes::Change;
-use coniks_client::kept::Kept;
+use coniks_client::stored::StoredEntry;
 use coniks_client::watching::Watch;
 
 /// A watched name, and the bytes of the changes of its key.
@@ -26,8 +26,8 @@ pub struct Watched<'a> {
 /// The parts of a state. All of them are borrowed from its bytes.
 #[derive(Clone, Copy)]
 pub struct State<'a> {
-    /// The kept epochs, each as 218 bytes.
-    pub kept: &'a [[u8; KEPT_BYTES]],
+    /// The stored epochs, each as 218 bytes.
+    pub stored: &'a [[u8; STORED_BYTES]],
     /// The alarms, each as 9 bytes.
     pub alarms: &'a [[u8; ALARM_BYTES]],
     /// The SHA-256 of the trust document, 32 zero bytes without one.
@@ -41,32 +41,32 @@ pub struct State<'a> {
 impl State<'_> {
     ghost use Rattle.coniks_quorum.specs.Says.{AreMarksAfter};
 
-    /// Returns a kept epoch, counted from 0, or `None` if there are fewer.
-    pub fn kept_at(&self, place: usize) -> Option<Kept>
-        ensures { result ≡ slice_get (map kept_from self.now.kept.now) place }
+    /// Returns a stored epoch, counted from 0, or `None` if there are fewer.
+    pub fn stored_at(&self, place: usize) -> Option<StoredEntry>
+        ensures { result ≡ slice_get (map stored_from self.now.stored.now) place }
     {
-        if place < self.kept.len() {
-            Some(kept_from(&self.kept[place]))
+        if place < self.stored.len() {
+            Some(stored_from(&self.stored[place]))
         } else {
             None
         }
     }
 
-    /// Copies the kept epochs to the first places of a slice, and returns their number.
+    /// Copies the stored epochs to the first places of a slice, and returns their number.
     ///
     /// Returns `None` if the slice has fewer places. Then its contents are unspecified.
-    pub fn copy_kept(&self, out: &mut [Kept]) -> Option<usize>
-        ensures some { IfSome result (λ count. take count out.new ≡ map kept_from self.now.kept.now) }
-        ensures count { IfSome result (λ count. count ≡ length self.now.kept.now) }
-        ensures none { IfNone result (length out.old < length self.now.kept.now) }
+    pub fn copy_stored(&self, out: &mut [StoredEntry]) -> Option<usize>
+        ensures some { IfSome result (λ count. take count out.new ≡ map stored_from self.now.stored.now) }
+        ensures count { IfSome result (λ count. count ≡ length self.now.stored.now) }
+        ensures none { IfNone result (length out.old < length self.now.stored.now) }
     {
-        if out.len() < self.kept.len() {
+        if out.len() < self.stored.len() {
             return None;
         }
-        for (place, bytes) in self.kept.iter().enumerate() {
-            out[place] = kept_from(bytes);
+        for (place, bytes) in self.stored.iter().enumerate() {
+            out[place] = stored_from(bytes);
         }
-        Some(self.kept.len())
+        Some(self.stored.len())
     }
 
     /// Copies the alarms to the first places of a slice, and returns their number.

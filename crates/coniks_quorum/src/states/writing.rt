@@ -3,15 +3,15 @@
 ghost use Rattle.std.specs.Prelude.{◌≡◌, ◌<◌, ◌≤◌, ◌^◌, ◌++◌, ◌∷◌, [], All, IfNone, IfSome, Option, flat_map, length, map, take};
 ghost use Rattle.std.specs.Int.{to_be_bytes, w32, w64};
 ghost use Rattle.std.specs.Option.{option_map};
-ghost use Rattle.coniks_quorum.specs.StateForms.{AreBytesOf, AreCounted, AreSized, IsAlarm, IsKept, IsMark, IsSized, IsSizedChange, IsSizedName, IsSizedWatch};
-ghost use Rattle.coniks_quorum.specs.Saved.{alarm_bytes, body_bytes, change_bytes, counted_bytes, front_bytes, kept_bytes, key_bytes, mark_bytes, saved_change, saved_state, saved_watch, state_bytes, watch_bytes, watched_bytes};
+ghost use Rattle.coniks_quorum.specs.StateForms.{AreBytesOf, AreCounted, AreSized, IsAlarm, IsStored, IsMark, IsSized, IsSizedChange, IsSizedName, IsSizedWatch};
+ghost use Rattle.coniks_quorum.specs.Saved.{alarm_bytes, body_bytes, change_bytes, counted_bytes, front_bytes, stored_bytes, key_bytes, mark_bytes, saved_change, saved_state, saved_watch, state_bytes, watch_bytes, watched_bytes};
 ghost use Rattle.coniks_quorum.specs.StateWriting.{HasState, Puts, size_of};
 
 use crate::alarms::Alarm;
 use crate::states::client::Client;
 use crate::states::reading::{NO_WATCH, STATE_VERSION, WATCH, hash_of};
 use coniks_client::changes::Change;
-use coniks_client::kept::Kept;
+use coniks_client::stored::StoredEntry;
 use coniks_client::watching::Watch;
 use coniks_proof::Hash32;
 
@@ -45,12 +45,11 @@ fn put_number(out: &mut [u8], at: usize, number: u64) -> Option<usize>
 }
 
 /// Writes a count of 4 bytes.
-fn put_count(out: &mut [u8], at: usize, count: usize) -> Option<usize>
-    requires at { at ≤ length out.old }
-    requires few { count < 2 ^ 32 }
+fn put_count(out: &mut [u8], at: usize, count: u32) -> Option<usize>
+    requires { at ≤ length out.old }
     ensures { Puts out.old at (to_be_bytes w32 count) out.new result }
 {
-    put(out, at, &(count as u32).to_be_bytes())
+    put(out, at, &count.to_be_bytes())
 }
 
 /// Writes a key with its length before it.
@@ -59,7 +58,7 @@ fn put_key(out: &mut [u8], at: usize, key: &[u8]) -> Option<usize>
     requires short { length key.now < 2 ^ 32 }
     ensures { Puts out.old at (key_bytes key.now) out.new result }
 {
-    let Some(at) = put_count(out, at, key.len()) else {
+    let Some(at) = put_count(out, at, key.len() as u32) else {
         return None;
     };
     put(out, at, key)
@@ -96,7 +95,7 @@ fn put_changes(out: &mut [u8], at: usize, changes: &[Change<'_>]) -> Option<usiz
     Some(end)
 }
 
-/// A part of a state of which there are several of one size: a kept epoch, an alarm, or a mark.
+/// A part of a state of which there are several of one size: a stored epoch, an alarm, or a mark.
 trait Part {
     ghost use Rattle.coniks_proof.specs.Octets.{Octets};
 
@@ -113,10 +112,10 @@ trait Part {
         ensures sized { is_part self.now };
 }
 
-impl Part for Kept {
-    ghost one_bytes = { kept_bytes };
+impl Part for StoredEntry {
+    ghost one_bytes = { stored_bytes };
 
-    ghost is_part = { IsKept };
+    ghost is_part = { IsStored };
 
     fn put(&self, out: &mut [u8], at: usize) -> Option<usize> {
         let Some(at) = put(out, at, &self.entry) else {
@@ -203,7 +202,7 @@ fn put_watched(
     let Some(at) = put_named(out, at, watch) else {
         return None;
     };
-    let Some(at) = put_count(out, at, changes.len()) else {
+    let Some(at) = put_count(out, at, changes.len() as u32) else {
         return None;
     };
     put_changes(out, at, changes)
@@ -233,7 +232,7 @@ fn put_counted<P: Part>(out: &mut [u8], at: usize, parts: &[P]) -> Option<usize>
     ensures puts { Puts out.old at (counted_bytes P.one_bytes parts.now) out.new result }
     ensures sized { IfSome result (λ end. AreCounted P.is_part parts.now) }
 {
-    let Some(at) = put_count(out, at, parts.len()) else {
+    let Some(at) = put_count(out, at, parts.len() as u32) else {
         return None;
     };
     put_all(out, at, parts)
@@ -243,13 +242,13 @@ fn put_counted<P: Part>(out: &mut [u8], at: usize, parts: &[P]) -> Option<usize>
 fn put_front(out: &mut [u8], at: usize, client: &Client<'_>) -> Option<usize>
     requires at { at ≤ length out.old }
     requires has { HasState (saved_state client.now) }
-    ensures puts { Puts out.old at (front_bytes client.now.kept.now client.now.alarms.now client.now.trust.now client.now.marks.now) out.new result }
-    ensures kept { IfSome result (λ end. AreCounted IsKept client.now.kept.now) }
+    ensures puts { Puts out.old at (front_bytes client.now.stored.now client.now.alarms.now client.now.trust.now client.now.marks.now) out.new result }
+    ensures stored { IfSome result (λ end. AreCounted IsStored client.now.stored.now) }
     ensures alarms { IfSome result (λ end. AreCounted IsAlarm client.now.alarms.now) }
     ensures trust { IfSome result (λ end. length client.now.trust.now ≡ 32) }
     ensures marks { IfSome result (λ end. AreCounted IsMark client.now.marks.now) }
 {
-    let Some(at) = put_counted(out, at, client.kept) else {
+    let Some(at) = put_counted(out, at, client.stored) else {
         return None;
     };
     let Some(at) = put_counted(out, at, client.alarms) else {

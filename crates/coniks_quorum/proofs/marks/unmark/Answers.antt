@@ -5,7 +5,7 @@ use Rattle.coniks_quorum.proofs.AgainLemmas.{unmarked-right}
 use Rattle.coniks_quorum.proofs.marks.unmark.Goals as goal
 
 pub returns-clause-right : goal.returns-clause-right
-returns-clause-right c = λ hash auditors dropped kept latest mine again here are.
-    subst (λ (marks : List ℕ). AreMarks hash auditors (dropped ++ with_latest kept mine) marks)
+returns-clause-right c = λ hash auditors dropped stored latest mine again here are.
+    subst (λ (marks : List ℕ). AreMarks hash auditors (dropped ++ with_latest stored mine) marks)
     (ap (λ (epoch : ℕ). map (unmarked epoch) c.args.marks.now) here ∙ sym c.unmark_each.ensures)
-    (unmarked-right dropped kept latest mine again hash auditors c.args.marks.now are)
+    (unmarked-right dropped stored latest mine again hash auditors c.args.marks.now are)

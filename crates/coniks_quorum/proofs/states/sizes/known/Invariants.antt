@@ -1,7 +1,7 @@
 use Rattle.std.proofs.Common.{take}
 use Rattle.std.specs.List.{All}
-use Rattle.coniks_quorum.specs.StateForms.{IsKept}
+use Rattle.coniks_quorum.specs.StateForms.{IsStored}
 use Rattle.coniks_quorum.proofs.states.sizes.known.Given as goal
 
 abbrev pub invariant-loop-mine : goal.invariant-loop-mine
-invariant-loop-mine l = All IsKept (take l.mine-index l.kept)
+invariant-loop-mine l = All IsStored (take l.mine-index l.stored)
