@@ -1,4 +1,4 @@
--- Two chains of kept epochs, walked from their ends.
+-- Two chains of stored epochs, walked from their ends.
 use Rattle.std.proofs.Common.{◌≡◌, ◌≢◌, ℕ, zero, suc, ◌+◌, ◌-◌, ◌<◌, ◌≤◌, List, [], ◌∷◌, length, Some, refl, sym, ap, ◌∙◌, ◌⊎◌, arith, drop, get_or, ⊎_elim, length-drop, drop-cons}
 use Rattle.std.specs.List.{slice_get}
 use Rattle.std.proofs.lemmas.Option.{get_or_from_slice_get, slice_get-get_or, slice_get_within, same_Some}
@@ -6,21 +6,21 @@ use Rattle.std.proofs.lemmas.Bool.{cases_lt}
 use Rattle.coniks_chain.specs.declared.entry.Entry.{Entry}
 use Rattle.coniks_chain.specs.Entries.{link_preimage}
 use Rattle.coniks_chain.specs.Fork.{Stand, IsFork, HasNoFork, left_used_up, right_used_up, links_differ}
-use Rattle.coniks_client.specs.Kept.{entries_in, entry_in}
-use Rattle.coniks_client.specs.declared.kept.Kept.{Kept}
+use Rattle.coniks_client.specs.StoredEntry.{entries_in, entry_in}
+use Rattle.coniks_client.specs.declared.stored.StoredEntry.{StoredEntry}
 use Rattle.coniks_client.proofs.Lemmas.{entry_at}
 use Rattle.coniks_evidence.specs.Forks.{ForksAt}
 use Rattle.coniks_evidence.specs.declared.forks.Places.{Places}
 
 -- the last k entries of both are equal
-abbrev pub AreAlike : List Kept → List Kept → ℕ → Type 0
+abbrev pub AreAlike : List StoredEntry → List StoredEntry → ℕ → Type 0
 AreAlike a b k = drop (length a - k) (entries_in a) ≡ drop (length b - k) (entries_in b)
 
 -- the entries from a place on are the one there and those after it
 drop_at : (es : List Entry) (k : ℕ) (e : Entry) → slice_get es k ≡ Some e → drop k es ≡ e ∷ drop (suc k) es
 drop_at es k e there = drop-cons es k e (slice_get_within es k e there) ∙ ap (λ x. x ∷ drop (suc k) es) (get_or_from_slice_get es k e e there)
 
-module _ (a b : List Kept) (k i j : ℕ) (mine other : Kept) (far_a : i + k + 1 ≡ length a) (far_b : j + k + 1 ≡ length b)
+module _ (a b : List StoredEntry) (k i j : ℕ) (mine other : StoredEntry) (far_a : i + k + 1 ≡ length a) (far_b : j + k + 1 ≡ length b)
     (at_a : slice_get a i ≡ Some mine) (at_b : slice_get b j ≡ Some other) (alike : AreAlike a b k) where
   -- where the walk is
   pub standing : Stand (entries_in a) (entries_in b) i j (entry_in mine) (entry_in other)
@@ -43,7 +43,7 @@ module _ (a b : List Kept) (k i j : ℕ) (mine other : Kept) (far_a : i + k + 1 
       ∙ sym (drop_at (entries_in b) j (entry_in other) standing.right) ∙ ap (λ n. drop n (entries_in b)) (sym here_b)
 
 -- at the end of the walk a list is used up
-pub used_up : (hash : List ℕ → List ℕ) (a b : List Kept) (k : ℕ) → (length a ≤ k) ⊎ (length b ≤ k) → AreAlike a b k → HasNoFork hash (entries_in a) (entries_in b)
+pub used_up : (hash : List ℕ → List ℕ) (a b : List StoredEntry) (k : ℕ) → (length a ≤ k) ⊎ (length b ≤ k) → AreAlike a b k → HasNoFork hash (entries_in a) (entries_in b)
 used_up hash a b k done alike = ⊎_elim
     (λ all. let none : length a - k ≡ 0 = omega arith in left_used_up (length b - k) (ap (λ n. drop n (entries_in a)) (sym none) ∙ alike))
     (λ all. let none : length b - k ≡ 0 = omega arith in right_used_up (length a - k) (alike ∙ ap (λ n. drop n (entries_in b)) none))
@@ -100,7 +100,7 @@ no_stop hash xs ys e f fork (right_used_up n is) =
 no_stop hash xs ys e f fork (links_differ k l d g stand differ) = differ (no_other_place hash xs ys e f k l d g fork stand)
 
 -- the walk at the k-th entries from the ends
-module _ (hash : List ℕ → List ℕ) (a b : List Kept) (k i j : ℕ) (d : Kept) (is_i : i ≡ length a - 1 - k) (is_j : j ≡ length b - 1 - k)
+module _ (hash : List ℕ → List ℕ) (a b : List StoredEntry) (k i j : ℕ) (d : StoredEntry) (is_i : i ≡ length a - 1 - k) (is_j : j ≡ length b - 1 - k)
     (in_a : k < length a) (in_b : k < length b) (alike : AreAlike a b k) where
   at_first : slice_get a i ≡ Some (get_or a i d)
   at_first = slice_get-get_or a i d (omega arith)

@@ -2,9 +2,9 @@
 use Rattle.std.proofs.Common.{◌≡◌, ℕ, List, Option, sym, ap, subst, ◌∙◌, arith}
 use Rattle.std.proofs.lemmas.Option.{same_Some}
 use Rattle.coniks_client.specs.Changes.{IsDecided, wanted}
-use Rattle.coniks_client.specs.Kept.{entry_in, epoch_in}
+use Rattle.coniks_client.specs.StoredEntry.{entry_in, epoch_in}
 use Rattle.coniks_client.specs.Owner.{IsSame}
-use Rattle.coniks_client.specs.Told.{AgainLaw}
+use Rattle.coniks_client.specs.Reported.{AgainLaw}
 use Rattle.coniks_evidence.specs.Laws.{FoundLaw, WatcherLaw}
 use Rattle.coniks_evidence.specs.Records.{IsAccepted, expected_by}
 
@@ -23,8 +23,8 @@ watcher again hash scheme head epoch owner watches headed shows = record {
 
 pub found_record : FoundLaw
 found_record present hash verdict scheme policy name head epoch place contact answer chain headed in_time found =
-    let asked = found.there.asked in
-    let same : asked.0 ≡ found.mine = same_Some asked.0 found.mine (sym asked.1 ∙ found.there.there) in
+    let requested = found.there.requested in
+    let same : requested.0 ≡ found.mine = same_Some requested.0 found.mine (sym requested.1 ∙ found.there.there) in
     record {
       chain = chain;
       headed = headed;
@@ -32,6 +32,6 @@ found_record present hash verdict scheme policy name head epoch place contact an
       place = place;
       mine = found.mine;
       there = found.there.there;
-      epoch_is = ap epoch_in (sym same) ∙ asked.2;
+      epoch_is = ap epoch_in (sym same) ∙ requested.2;
       accepted = record { whole = found.vetted.whole; same = found.there.same; answers = found.answers };
     }

@@ -8,7 +8,7 @@ use Rattle.coniks_chain.specs.declared.entry.Entry.{Entry}
 use Rattle.coniks_client.specs.Lookups.{Answers, Shows}
 use Rattle.coniks_client.specs.Owner.{Scheme}
 use Rattle.coniks_client.specs.Replies.{IsNoReply, IsReply, entry_part, proof_part, vrf_part}
-use Rattle.coniks_client.specs.declared.kept.Kept.{Kept}
+use Rattle.coniks_client.specs.declared.stored.StoredEntry.{StoredEntry}
 use Rattle.coniks_client.specs.declared.lookups.LookupFault.{LookupFault}
 use Rattle.coniks_client.specs.declared.replies.ReplyFault.{ReplyFault}
 use Rattle.coniks_client.specs.declared.replies.ReplyFault.TheVariants.{NoReply, ReplyVersion, CutInEntry, CutInVrf}
@@ -22,11 +22,11 @@ not_both bytes ReplyVersion whole none = none.1 whole.version
 not_both bytes CutInEntry whole none = let long = whole.entry in let short = none.1 in omega arith
 not_both bytes CutInVrf whole none = let long = whole.vrf in let short = none.2 in omega arith
 
--- an epoch at which a reply is accepted is kept, and the bytes are a reply
-pub shown_whole : (hash : List ℕ → List ℕ) (scheme : Scheme) (kept : List Kept) (epoch : ℕ) (name bytes : List ℕ) (answer : Option (List ℕ))
-    → IsShownIn hash scheme kept epoch name bytes answer → IsReply bytes
-shown_whole hash scheme kept epoch name bytes answer shown =
-    let there = shown.kept_there in (shown.accepted there.0 there.1 there.2 there.3).whole
+-- an epoch at which a reply is accepted is stored, and the bytes are a reply
+pub shown_whole : (hash : List ℕ → List ℕ) (scheme : Scheme) (stored : List StoredEntry) (epoch : ℕ) (name bytes : List ℕ) (answer : Option (List ℕ))
+    → IsShownIn hash scheme stored epoch name bytes answer → IsReply bytes
+shown_whole hash scheme stored epoch name bytes answer shown =
+    let there = shown.stored_there in (shown.accepted there.0 there.1 there.2 there.3).whole
 
 module _ (hash : List ℕ → List ℕ) (scheme : Scheme) (entry : Entry) (name bytes e v p : List ℕ)
     (is_e : e ≡ entry_part bytes) (is_v : v ≡ vrf_part bytes) (is_p : p ≡ proof_part bytes) where

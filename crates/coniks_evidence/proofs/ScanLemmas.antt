@@ -1,25 +1,25 @@
--- What holds of each kept epoch that a scan has passed.
+-- What holds of each stored epoch that a scan has passed.
 use Rattle.std.proofs.Common.{◌≡◌, ℕ, ◌+◌, ◌<◌, ◌≤◌, List, length, Some, sym, ap, subst, ◌∙◌, ⊎_elim, arith, get_or}
 use Rattle.std.specs.List.{slice_get}
 use Rattle.std.proofs.lemmas.Option.{slice_get_within, slice_get-get_or, same_Some}
 use Rattle.std.proofs.lemmas.Bool.{cases_lt}
-use Rattle.coniks_client.specs.declared.kept.Kept.{Kept}
+use Rattle.coniks_client.specs.declared.stored.StoredEntry.{StoredEntry}
 
--- it holds of the first n kept epochs
-abbrev pub HoldsTo : (Kept → Type 0) → List Kept → ℕ → Type 0
-HoldsTo P kept n = (k : ℕ) (mine : Kept) → k < n → slice_get kept k ≡ Some mine → P mine
+-- it holds of the first n stored epochs
+abbrev pub HoldsTo : (StoredEntry → Type 0) → List StoredEntry → ℕ → Type 0
+HoldsTo P stored n = (k : ℕ) (mine : StoredEntry) → k < n → slice_get stored k ≡ Some mine → P mine
 
-pub holds-all : (P : Kept → Type 0) (kept : List Kept) (n : ℕ) → length kept ≤ n → HoldsTo P kept n → (k : ℕ) (mine : Kept) → slice_get kept k ≡ Some mine → P mine
-holds-all P kept n all holds = λ k mine at.
-    let below = slice_get_within kept k mine at in
+pub holds-all : (P : StoredEntry → Type 0) (stored : List StoredEntry) (n : ℕ) → length stored ≤ n → HoldsTo P stored n → (k : ℕ) (mine : StoredEntry) → slice_get stored k ≡ Some mine → P mine
+holds-all P stored n all holds = λ k mine at.
+    let below = slice_get_within stored k mine at in
     holds k mine (omega arith) at
 
 -- and of one more
-pub holds-more : (P : Kept → Type 0) (kept : List Kept) (n : ℕ) (d : Kept) → n < length kept → P (get_or kept n d) → HoldsTo P kept n → HoldsTo P kept (n + 1)
-holds-more P kept n d within here before = λ k other less there. ⊎_elim
+pub holds-more : (P : StoredEntry → Type 0) (stored : List StoredEntry) (n : ℕ) (d : StoredEntry) → n < length stored → P (get_or stored n d) → HoldsTo P stored n → HoldsTo P stored (n + 1)
+holds-more P stored n d within here before = λ k other less there. ⊎_elim
     (λ (below : k < n). before k other below there)
     (λ (le : n ≤ k).
     let place : k ≡ n = omega arith in
-    let same : get_or kept n d ≡ other = same_Some (get_or kept n d) other (sym (slice_get-get_or kept n d within) ∙ ap (slice_get kept) (sym place) ∙ there) in
+    let same : get_or stored n d ≡ other = same_Some (get_or stored n d) other (sym (slice_get-get_or stored n d within) ∙ ap (slice_get stored) (sym place) ∙ there) in
     subst P same here)
     (cases_lt k n)

@@ -6,18 +6,18 @@ use Rattle.coniks_proof.specs.Octets.{Octets}
 use Rattle.coniks_proof.specs.Wire.{IsWire}
 use Rattle.coniks_proof.specs.declared.paths.Proof.{Proof}
 use Rattle.coniks_chain.specs.Entries.{link_preimage}
-use Rattle.coniks_client.specs.Kept.{entry_in}
+use Rattle.coniks_client.specs.StoredEntry.{entry_in}
 use Rattle.coniks_client.specs.Owner.{Scheme}
 use Rattle.coniks_client.specs.Replies.{proof_part}
-use Rattle.coniks_client.specs.declared.kept.Kept.{Kept}
+use Rattle.coniks_client.specs.declared.stored.StoredEntry.{StoredEntry}
 use Rattle.coniks_evidence.specs.declared.findings.Finding.{Finding}
 use Rattle.coniks_evidence.specs.declared.findings.Finding.TheVariants.{Same, Nothing}
 use Rattle.coniks_evidence.specs.declared.records.ContactRecord.{ContactRecord}
 use Rattle.coniks_evidence.specs.declared.records.OwnerRecord.{OwnerRecord}
 
--- a byte string is hashed to the link of a kept entry
-abbrev pub IsLinked : List Kept → Octets → Type 0
-IsLinked kept x = (k : ℕ) × (mine : Kept) × (slice_get kept k ≡ Some mine) × (x ≡ link_preimage (entry_in mine))
+-- a byte string is hashed to the link of a stored entry
+abbrev pub IsLinked : List StoredEntry → Octets → Type 0
+IsLinked stored x = (k : ℕ) × (mine : StoredEntry) × (slice_get stored k ≡ Some mine) × (x ≡ link_preimage (entry_in mine))
 
 -- a byte string is hashed on the path in a reply, under some nonce and at some index
 abbrev pub IsOnPath : (Octets → Octets) → Octets → Octets → Type 0
@@ -27,7 +27,7 @@ IsOnPath hash bytes x = (nonce : Octets) × (index : Octets) × (proof : Proof) 
 -- a byte string is hashed for one of the two records
 abbrev pub IsHashed : (Octets → Octets) → OwnerRecord → ContactRecord → Octets → Type 0
 IsHashed hash owner contact x =
-    IsLinked owner.kept.now x ⊎ IsLinked contact.kept.now x ⊎ IsOnPath hash owner.reply.now x ⊎ IsOnPath hash contact.reply.now x
+    IsLinked owner.stored.now x ⊎ IsLinked contact.stored.now x ⊎ IsOnPath hash owner.reply.now x ⊎ IsOnPath hash contact.reply.now x
 
 -- the strings that are hashed for two records collide nowhere, and the name has one index
 pub record AreHonest (hash : Octets → Octets) (scheme : Scheme) (owner : OwnerRecord) (contact : ContactRecord) : Type 0 where

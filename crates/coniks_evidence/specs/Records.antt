@@ -1,8 +1,8 @@
--- What the owner of a name and somebody who looked it up have kept of one epoch.
+-- What the owner of a name and somebody who looked it up have stored of one epoch.
 use Rattle.std.specs.Prelude.{◌≡◌, ◌≢◌, ◌⊎◌, ◌≤◌, ℕ, suc, List, Option, Some, slice_get, take}
 use Rattle.coniks_proof.specs.Hashing.{hashing}
 use Rattle.coniks_proof.specs.Octets.{Octets}
-use Rattle.coniks_proof.specs.Proofs.{Accepts, said}
+use Rattle.coniks_proof.specs.Proofs.{Accepts, stated}
 use Rattle.coniks_proof.specs.Wire.{IsWire}
 use Rattle.coniks_proof.specs.declared.values.Head.{Head}
 use Rattle.coniks_proof.specs.declared.values.Index.{Index}
@@ -12,18 +12,18 @@ use Rattle.coniks_chain.specs.declared.entry.Body.{Body}
 use Rattle.coniks_chain.specs.declared.entry.Entry.{Entry}
 use Rattle.coniks_client.specs.Changes.{expected, wanted}
 use Rattle.coniks_client.specs.Comparing.{HasHead}
-use Rattle.coniks_client.specs.Kept.{IsChain, entry_in, epoch_in}
+use Rattle.coniks_client.specs.StoredEntry.{IsChain, entry_in, epoch_in}
 use Rattle.coniks_client.specs.Lookups.{Answers, AnswersNone, IsUnknown, body_part}
 use Rattle.coniks_client.specs.Owner.{Scheme}
 use Rattle.coniks_client.specs.Replies.{IsNoReply, IsReply, proof_part, vrf_part}
-use Rattle.coniks_client.specs.declared.kept.Kept.{Kept}
+use Rattle.coniks_client.specs.declared.stored.StoredEntry.{StoredEntry}
 use Rattle.coniks_client.specs.declared.lookups.LookupFault.{LookupFault}
 use Rattle.coniks_client.specs.declared.lookups.LookupFault.TheVariants.{NoReply, UnknownEpoch, OtherEpoch}
 use Rattle.coniks_client.specs.declared.replies.ReplyFault.{ReplyFault}
 use Rattle.coniks_evidence.specs.declared.records.OwnerRecord.{OwnerRecord}
 use Rattle.coniks_evidence.specs.declared.records.ContactRecord.{ContactRecord}
 use Rattle.coniks_evidence.specs.declared.replies.Saved.{Saved}
-use Rattle.coniks_evidence.specs.declared.replies.Held.{Held}
+use Rattle.coniks_evidence.specs.declared.replies.FoundReply.{FoundReply}
 
 -- a reply is accepted under an entry: it has the entry's body, and its proofs show this answer of the name
 pub record IsAccepted (hash : Octets → Octets) (scheme : Scheme) (entry : Entry) (name bytes : Octets) (answer : Option Octets) : Type 0 where
@@ -34,7 +34,7 @@ pub record IsAccepted (hash : Octets → Octets) (scheme : Scheme) (entry : Entr
 -- the bytes are this proof, which is accepted under an entry with this answer
 pub record IsShown (hash : Octets → Octets) (entry : Entry) (index name bytes : Octets) (proof : Proof) (answer : Answer) : Type 0 where
   pub wire : IsWire bytes proof
-  pub accepted : Accepts (hashing hash entry.body.nonce.0) entry.body.root.0 index name proof (said answer)
+  pub accepted : Accepts (hashing hash entry.body.nonce.0) entry.body.root.0 index name proof (stated answer)
 
 -- these are the VRF proof and the proof in a reply, with the index and the answer that they are accepted with
 pub record IsVerified (hash : Octets → Octets) (scheme : Scheme) (entry : Entry) (name vrf bytes : Octets) (saved : Saved) : Type 0 where
@@ -44,7 +44,7 @@ pub record IsVerified (hash : Octets → Octets) (scheme : Scheme) (entry : Entr
 
 -- a saved proof is accepted under an entry, at this index, with its answer
 abbrev pub IsAcceptedAt : (Octets → Octets) → Entry → Index → Octets → Saved → Type 0
-IsAcceptedAt hash entry index name saved = Accepts (hashing hash entry.body.nonce.0) entry.body.root.0 index.0 name saved.proof (said saved.answer)
+IsAcceptedAt hash entry index name saved = Accepts (hashing hash entry.body.nonce.0) entry.body.root.0 index.0 name saved.proof (stated saved.answer)
 
 -- a saved reply has the body of the entry, and its proofs are accepted under it, at its index, with its answer
 pub record IsSaved (hash : Octets → Octets) (scheme : Scheme) (entry : Entry) (name bytes : Octets) (saved : Saved) : Type 0 where
@@ -57,65 +57,65 @@ abbrev pub IsUnaccepted : (Octets → Octets) → Scheme → Entry → Octets �
 IsUnaccepted hash scheme entry name body vrf bytes fault =
     ((fault ≡ OtherEpoch) × (body ≢ entry.body)) ⊎ ((body ≡ entry.body) × AnswersNone hash scheme entry name vrf bytes fault)
 
--- an epoch is kept, and at its place a reply is accepted: what the place and the reply have
-pub record IsHeld (hash : Octets → Octets) (scheme : Scheme) (kept : List Kept) (epoch : ℕ) (name bytes : Octets) (held : Held) : Type 0 where
+-- an epoch is stored, and at its place a reply is accepted: what the place and the reply have
+pub record IsFound (hash : Octets → Octets) (scheme : Scheme) (stored : List StoredEntry) (epoch : ℕ) (name bytes : Octets) (found : FoundReply) : Type 0 where
   pub place : ℕ
-  pub there : slice_get kept place ≡ Some held.mine
-  pub epoch_is : epoch_in held.mine ≡ epoch
-  pub saved : IsSaved hash scheme (entry_in held.mine) name bytes held.saved
+  pub there : slice_get stored place ≡ Some found.mine
+  pub epoch_is : epoch_in found.mine ≡ epoch
+  pub saved : IsSaved hash scheme (entry_in found.mine) name bytes found.saved
 
--- an epoch is kept, and the reply is not accepted there
-pub record IsUnheldAt (hash : Octets → Octets) (scheme : Scheme) (kept : List Kept) (epoch : ℕ) (name bytes : Octets) (fault : LookupFault) : Type 0 where
+-- an epoch is stored, and the reply is not accepted there
+pub record IsNotFoundAt (hash : Octets → Octets) (scheme : Scheme) (stored : List StoredEntry) (epoch : ℕ) (name bytes : Octets) (fault : LookupFault) : Type 0 where
   pub whole : IsReply bytes
   pub place : ℕ
-  pub mine : Kept
-  pub there : slice_get kept place ≡ Some mine
+  pub mine : StoredEntry
+  pub there : slice_get stored place ≡ Some mine
   pub epoch_is : epoch_in mine ≡ epoch
   pub refused : IsUnaccepted hash scheme (entry_in mine) name (body_part bytes) (vrf_part bytes) (proof_part bytes) fault
 
 -- why a reply is not accepted at an epoch, the first of these: its parts, the epoch, its body, its proofs
-abbrev pub IsUnheld : (Octets → Octets) → Scheme → List Kept → ℕ → Octets → Octets → LookupFault → Type 0
-IsUnheld hash scheme kept epoch name bytes fault = ((r : ReplyFault) × (fault ≡ NoReply r) × IsNoReply bytes r)
-    ⊎ ((fault ≡ UnknownEpoch) × IsReply bytes × IsUnknown kept (Some epoch))
-    ⊎ IsUnheldAt hash scheme kept epoch name bytes fault
+abbrev pub IsNotFound : (Octets → Octets) → Scheme → List StoredEntry → ℕ → Octets → Octets → LookupFault → Type 0
+IsNotFound hash scheme stored epoch name bytes fault = ((r : ReplyFault) × (fault ≡ NoReply r) × IsNoReply bytes r)
+    ⊎ ((fault ≡ UnknownEpoch) × IsReply bytes × IsUnknown stored (Some epoch))
+    ⊎ IsNotFoundAt hash scheme stored epoch name bytes fault
 
--- an epoch is kept, and wherever it is, a reply is accepted with this answer
-pub record IsShownIn (hash : Octets → Octets) (scheme : Scheme) (kept : List Kept) (epoch : ℕ) (name bytes : Octets) (answer : Option Octets) : Type 0 where
-  pub kept_there : (k : ℕ) × (mine : Kept) × (slice_get kept k ≡ Some mine) × (epoch_in mine ≡ epoch)
-  pub accepted : (k : ℕ) (mine : Kept) → slice_get kept k ≡ Some mine → epoch_in mine ≡ epoch → IsAccepted hash scheme (entry_in mine) name bytes answer
+-- an epoch is stored, and wherever it is, a reply is accepted with this answer
+pub record IsShownIn (hash : Octets → Octets) (scheme : Scheme) (stored : List StoredEntry) (epoch : ℕ) (name bytes : Octets) (answer : Option Octets) : Type 0 where
+  pub stored_there : (k : ℕ) × (mine : StoredEntry) × (slice_get stored k ≡ Some mine) × (epoch_in mine ≡ epoch)
+  pub accepted : (k : ℕ) (mine : StoredEntry) → slice_get stored k ≡ Some mine → epoch_in mine ≡ epoch → IsAccepted hash scheme (entry_in mine) name bytes answer
 
--- a head is one of the kept epochs
-abbrev pub HasHeadAt : (Octets → Octets) → List Kept → Head → ℕ → Type 0
-HasHeadAt hash kept head place = (mine : Kept) × (slice_get kept place ≡ Some mine) × HasHead hash mine head
+-- a head is one of the stored epochs
+abbrev pub HasHeadAt : (Octets → Octets) → List StoredEntry → Head → ℕ → Type 0
+HasHeadAt hash stored head place = (mine : StoredEntry) × (slice_get stored place ≡ Some mine) × HasHead hash mine head
 
 -- it is none of them
-abbrev pub HasNoHead : (Octets → Octets) → List Kept → Head → Type 0
-HasNoHead hash kept head = (k : ℕ) (mine : Kept) → slice_get kept k ≡ Some mine → ¬ HasHead hash mine head
+abbrev pub HasNoHead : (Octets → Octets) → List StoredEntry → Head → Type 0
+HasNoHead hash stored head = (k : ℕ) (mine : StoredEntry) → slice_get stored k ≡ Some mine → ¬ HasHead hash mine head
 
--- the kept epochs up to a head
-abbrev pub IsUpTo : (Octets → Octets) → List Kept → Head → List Kept → Type 0
-IsUpTo hash kept head upto = (place : ℕ) × HasHeadAt hash kept head place × (upto ≡ take (suc place) kept)
+-- the stored epochs up to a head
+abbrev pub IsUpTo : (Octets → Octets) → List StoredEntry → Head → List StoredEntry → Type 0
+IsUpTo hash stored head upto = (place : ℕ) × HasHeadAt hash stored head place × (upto ≡ take (suc place) stored)
 
 -- what the changes expect of an epoch
 abbrev pub expected_by : OwnerRecord → ℕ → Option Octets
 expected_by owner epoch = expected (wanted owner.watch.key.now) owner.changes.now epoch
 
--- an owner's record is sound: a chain that has the head and begins at or before the epoch; where the epoch is kept, the saved
+-- an owner's record is sound: a chain that has the head and begins at or before the epoch; where the epoch is stored, the saved
 -- reply shows what her changes expect
 pub record IsOwnerRecord (hash : Octets → Octets) (scheme : Scheme) (head : Head) (epoch : ℕ) (owner : OwnerRecord) : Type 0 where
-  pub chain : IsChain hash owner.kept.now
-  pub headed : (place : ℕ) × HasHeadAt hash owner.kept.now head place
-  pub begins : (mine : Kept) → slice_get owner.kept.now 0 ≡ Some mine → epoch_in mine ≤ epoch
-  pub shown : (k : ℕ) (mine : Kept) → slice_get owner.kept.now k ≡ Some mine → epoch_in mine ≡ epoch
+  pub chain : IsChain hash owner.stored.now
+  pub headed : (place : ℕ) × HasHeadAt hash owner.stored.now head place
+  pub begins : (mine : StoredEntry) → slice_get owner.stored.now 0 ≡ Some mine → epoch_in mine ≤ epoch
+  pub shown : (k : ℕ) (mine : StoredEntry) → slice_get owner.stored.now k ≡ Some mine → epoch_in mine ≡ epoch
       → IsAccepted hash scheme (entry_in mine) owner.watch.name.now owner.reply.now (expected_by owner epoch)
 
 -- a contact's record is sound: a chain that has the head, in which the saved reply shows this answer of the name at the epoch
 pub record IsContactRecord (hash : Octets → Octets) (scheme : Scheme) (head : Head) (epoch : ℕ) (name : Octets) (contact : ContactRecord) (answer : Option Octets) : Type 0 where
-  pub chain : IsChain hash contact.kept.now
-  pub headed : (place : ℕ) × HasHeadAt hash contact.kept.now head place
+  pub chain : IsChain hash contact.stored.now
+  pub headed : (place : ℕ) × HasHeadAt hash contact.stored.now head place
   pub in_time : epoch ≤ head.epoch
   pub place : ℕ
-  pub mine : Kept
-  pub there : slice_get contact.kept.now place ≡ Some mine
+  pub mine : StoredEntry
+  pub there : slice_get contact.stored.now place ≡ Some mine
   pub epoch_is : epoch_in mine ≡ epoch
   pub accepted : IsAccepted hash scheme (entry_in mine) name contact.reply.now answer

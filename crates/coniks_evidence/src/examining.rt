@@ -5,10 +5,10 @@ ghost use Rattle.coniks_proof.specs.Collisions.{FirstDiffer, IsCollision, hashed
 ghost use Rattle.coniks_proof.specs.Hashing.{hashing};
 ghost use Rattle.coniks_proof.specs.Octets.{Octets};
 ghost use Rattle.coniks_proof.specs.ProofRefs.{listed, owned};
-ghost use Rattle.coniks_proof.specs.Proofs.{said};
+ghost use Rattle.coniks_proof.specs.Proofs.{stated};
 ghost use Rattle.coniks_chain.specs.Entries.{IsEntry, link_preimage};
 ghost use Rattle.coniks_client.specs.Changes.{wanted};
-ghost use Rattle.coniks_client.specs.Kept.{entry_in};
+ghost use Rattle.coniks_client.specs.StoredEntry.{entry_in};
 ghost use Rattle.coniks_evidence.specs.Forks.{ForksAt};
 ghost use Rattle.coniks_evidence.specs.Findings.{Collides, Convicts, Finds, FindsFork, FindsIn, FindsOf, HaveOneEntry, IsTrueOf};
 ghost use Rattle.coniks_evidence.specs.Honest.{AreHonest, IsCalm};
@@ -20,25 +20,14 @@ use crate::parting::parted;
 use crate::paths::Path;
 use crate::preimages::{Colliding, Preimage};
 use crate::records::{ContactRecord, OwnerRecord, place_of, up_to};
-use crate::replies::{Held, Saved, held_at};
+use crate::replies::{FoundReply, ReplyVerifier, Saved, found_at};
 use coniks_chain::Entry;
-use coniks_client::{IndexScheme, Kept, settle};
-use coniks_proof::{Answer, Hash32, Head, ProofRef};
-
-/// Returns whether two answers are equal.
-fn same_answer(a: &Answer<'_>, b: &Answer<'_>) -> bool
-    ensures { IsTrue result ↔ (said a.now ≡ said b.now) }
-{
-    match (a, b) {
-        (Answer::Absent, Answer::Absent) => true,
-        (Answer::Key(x), Answer::Key(y)) => *x == *y,
-        _ => false,
-    }
-}
+use coniks_client::{IndexScheme, StoredEntry, settle};
+use coniks_proof::{Answer, Hash32, Head, ProofRef, same_answer};
 
 /// Returns whether an answer is a key, or none if there is none.
 fn is_key(answer: &Answer<'_>, key: &[u8]) -> bool
-    ensures { IsTrue result ↔ (said answer.now ≡ wanted key.now) }
+    ensures { IsTrue result ↔ (stated answer.now ≡ wanted key.now) }
 {
     match answer {
         Answer::Absent => key.is_empty(),
@@ -46,8 +35,8 @@ fn is_key(answer: &Answer<'_>, key: &[u8]) -> bool
     }
 }
 
-/// Returns whether two kept entries have one body.
-fn same_body(mine: &Kept, other: &Kept) -> bool
+/// Returns whether two stored entries have one body.
+fn same_body(mine: &StoredEntry, other: &StoredEntry) -> bool
     ensures { IsTrue result ↔ ((entry_in mine.now).body ≡ (entry_in other.now).body) }
 {
     mine.entry().body == other.entry().body
@@ -68,14 +57,14 @@ fn path_of<'a>(proof: &ProofRef<'a>) -> Path<'a>
 /// different answers.
 fn parted_answers<'a, H: Hash32>(
     h: &H,
-    mine: &Kept,
+    mine: &StoredEntry,
     a: &Saved<'a>,
     b: &Saved<'a>,
     name: &[u8],
 ) -> Colliding<'a>
     requires left { IsAcceptedAt (H.digest_of h.now) (entry_in mine.now) a.now.index name.now a.now }
     requires right { IsAcceptedAt (H.digest_of h.now) (entry_in mine.now) a.now.index name.now b.now }
-    requires differ { said a.now.answer ≢ said b.now.answer }
+    requires differ { stated a.now.answer ≢ stated b.now.answer }
     ensures collision { IsCollision (H.digest_of h.now) result.x result.y }
     ensures place { FirstDiffer
         (hashed (hashing (H.digest_of h.now) (entry_in mine.now).body.nonce.0) a.now.index.0 0 a.now.proof.siblings a.now.proof.end)
@@ -87,12 +76,12 @@ fn parted_answers<'a, H: Hash32>(
 }
 
 /// Compares what two accepted replies show of a name, with the key that is expected.
-fn compare_held<'a, H: Hash32>(
+fn compare_found<'a, H: Hash32>(
     h: &H,
     name: &[u8],
     key: &[u8],
-    a: &Held<'a>,
-    b: &Held<'a>,
+    a: &FoundReply<'a>,
+    b: &FoundReply<'a>,
 ) -> Finding<'a>
     requires left { IsAcceptedAt (H.digest_of h.now) (entry_in a.now.mine) a.now.saved.index name.now a.now.saved }
     requires right { IsAcceptedAt (H.digest_of h.now) (entry_in b.now.mine) b.now.saved.index name.now b.now.saved }
@@ -126,37 +115,42 @@ fn indexed<'a>(saved: &Saved<'a>) -> Indexed<'a>
     }
 }
 
+/// The stored epochs of an owner and of a contact, up to one head.
+#[derive(Clone, Copy)]
+struct Chains<'k> {
+    owner: &'k [StoredEntry],
+    contact: &'k [StoredEntry],
+}
+
 /// Compares what the replies of two records show, in two chains up to one head that do not fork.
 fn compare_replies<'a, H: Hash32, S: IndexScheme>(
-    h: &H,
-    scheme: &S,
+    by: &ReplyVerifier<'_, H, S>,
     epoch: u64,
     owner: &OwnerRecord<'a>,
     reply: &'a [u8],
-    xs: &[Kept],
-    ys: &[Kept],
+    chains: &Chains<'_>,
 ) -> Finding<'a>
-    ensures finds { FindsIn (H.digest_of h.now) (S.index_of scheme.now) epoch owner.now reply.now xs.now ys.now result }
-    ensures true_of { IsTrueOf (H.digest_of h.now) (S.index_of scheme.now) owner.now.watch.name.now result }
-    ensures convicts { (answer : Option Octets) → HaveOneEntry epoch xs.now ys.now
-        → IsShownIn (H.digest_of h.now) (S.index_of scheme.now) xs.now epoch owner.now.watch.name.now owner.now.reply.now (expected_by owner.now epoch)
-        → IsShownIn (H.digest_of h.now) (S.index_of scheme.now) ys.now epoch owner.now.watch.name.now reply.now answer
-        → answer ≢ expected_by owner.now epoch → Convicts (H.digest_of h.now) (S.index_of scheme.now) owner.now.watch.name.now result }
+    ensures finds { FindsIn (H.digest_of by.now.hash.now) (S.index_of by.now.indices.now) epoch owner.now reply.now chains.now.owner.now chains.now.contact.now result }
+    ensures true_of { IsTrueOf (H.digest_of by.now.hash.now) (S.index_of by.now.indices.now) owner.now.watch.name.now result }
+    ensures convicts { (answer : Option Octets) → HaveOneEntry epoch chains.now.owner.now chains.now.contact.now
+        → IsShownIn (H.digest_of by.now.hash.now) (S.index_of by.now.indices.now) chains.now.owner.now epoch owner.now.watch.name.now owner.now.reply.now (expected_by owner.now epoch)
+        → IsShownIn (H.digest_of by.now.hash.now) (S.index_of by.now.indices.now) chains.now.contact.now epoch owner.now.watch.name.now reply.now answer
+        → answer ≢ expected_by owner.now epoch → Convicts (H.digest_of by.now.hash.now) (S.index_of by.now.indices.now) owner.now.watch.name.now result }
 {
-    let a = match held_at(h, scheme, xs, epoch, owner.watch.name, owner.reply) {
-        Ok(held) => held,
+    let a = match found_at(by, chains.owner, epoch, owner.watch.name, owner.reply) {
+        Ok(found) => found,
         Err(fault) => return Finding::Nothing(Reason::OwnerReply(fault)),
     };
-    let b = match held_at(h, scheme, ys, epoch, owner.watch.name, reply) {
-        Ok(held) => held,
+    let b = match found_at(by, chains.contact, epoch, owner.watch.name, reply) {
+        Ok(found) => found,
         Err(fault) => return Finding::Nothing(Reason::ContactReply(fault)),
     };
     let stage = settle(owner.watch.key, owner.changes, epoch);
-    compare_held(h, owner.watch.name, stage.key, &a, &b)
+    compare_found(by.hash, owner.watch.name, stage.key, &a, &b)
 }
 
-/// Returns what is hashed to the link of a kept entry.
-fn link_of<'a>(mine: &'a Kept) -> Preimage<'a>
+/// Returns what is hashed to the link of a stored entry.
+fn link_of<'a>(mine: &'a StoredEntry) -> Preimage<'a>
     ensures string { result ≡ link_preimage (entry_in mine.now) }
     ensures entry { IsEntry (entry_in mine.now) }
 {
@@ -166,7 +160,7 @@ fn link_of<'a>(mine: &'a Kept) -> Preimage<'a>
 }
 
 /// Returns what is hashed to the links of two entries that differ and have one link.
-fn links<'a>(xs: &'a [Kept], ys: &'a [Kept], places: &Places) -> Colliding<'a>
+fn links<'a>(xs: &'a [StoredEntry], ys: &'a [StoredEntry], places: &Places) -> Colliding<'a>
     requires first { places.now.first < length xs.now }
     requires second { places.now.second < length ys.now }
     ensures finds { (hash : Octets → Octets) → ForksAt hash xs.now ys.now places.now → FindsFork hash xs.now ys.now result }
@@ -183,36 +177,41 @@ fn links<'a>(xs: &'a [Kept], ys: &'a [Kept], places: &Places) -> Colliding<'a>
 /// two VRF proofs of the name with different indices. Signatures are not verified, since two strings with one hash convict
 /// without them. Allocates nothing.
 pub fn examine<'a, H: Hash32, S: IndexScheme>(
-    h: &H,
-    scheme: &S,
+    by: &ReplyVerifier<'_, H, S>,
     head: &Head,
     epoch: u64,
     owner: &OwnerRecord<'a>,
     contact: &ContactRecord<'a>,
 ) -> Finding<'a>
-    ensures finds { Finds (H.digest_of h.now) (S.index_of scheme.now) head.now epoch owner.now contact.now result }
+    ensures finds { Finds (H.digest_of by.now.hash.now) (S.index_of by.now.indices.now) head.now epoch owner.now contact.now result }
 
     // What convicts does so whatever the records are.
-    ensures true_of { IsTrueOf (H.digest_of h.now) (S.index_of scheme.now) owner.now.watch.name.now result }
+    ensures true_of { IsTrueOf (H.digest_of by.now.hash.now) (S.index_of by.now.indices.now) owner.now.watch.name.now result }
 
     // The owner law: two sound records that show different keys convict.
-    ensures convicts { (answer : Option Octets) → IsOwnerRecord (H.digest_of h.now) (S.index_of scheme.now) head.now epoch owner.now
-        → IsContactRecord (H.digest_of h.now) (S.index_of scheme.now) head.now epoch owner.now.watch.name.now contact.now answer
-        → answer ≢ expected_by owner.now epoch → Convicts (H.digest_of h.now) (S.index_of scheme.now) owner.now.watch.name.now result }
+    ensures convicts { (answer : Option Octets) → IsOwnerRecord (H.digest_of by.now.hash.now) (S.index_of by.now.indices.now) head.now epoch owner.now
+        → IsContactRecord (H.digest_of by.now.hash.now) (S.index_of by.now.indices.now) head.now epoch owner.now.watch.name.now contact.now answer
+        → answer ≢ expected_by owner.now epoch → Convicts (H.digest_of by.now.hash.now) (S.index_of by.now.indices.now) owner.now.watch.name.now result }
 
     // Nothing that an honest directory shows convicts it.
-    ensures calm { AreHonest (H.digest_of h.now) (S.index_of scheme.now) owner.now contact.now → IsCalm result }
+    ensures calm { AreHonest (H.digest_of by.now.hash.now) (S.index_of by.now.indices.now) owner.now contact.now → IsCalm result }
 {
-    let Some(first) = place_of(h, owner.kept, head) else {
+    let Some(first) = place_of(by.hash, owner.stored, head) else {
         return Finding::Nothing(Reason::OwnerHead);
     };
-    let Some(second) = place_of(h, contact.kept, head) else {
+    let Some(second) = place_of(by.hash, contact.stored, head) else {
         return Finding::Nothing(Reason::ContactHead);
     };
-    let xs = up_to(owner.kept, first);
-    let ys = up_to(contact.kept, second);
-    match fork(h, xs, ys) {
+    let xs = up_to(owner.stored, first);
+    let ys = up_to(contact.stored, second);
+    match fork(by.hash, xs, ys) {
         Some(places) => Finding::Links(links(xs, ys, &places)),
-        None => compare_replies(h, scheme, epoch, owner, contact.reply, xs, ys),
+        None => {
+            let chains = Chains {
+                owner: xs,
+                contact: ys,
+            };
+            compare_replies(by, epoch, owner, contact.reply, &chains)
+        }
     }
 }

@@ -1,15 +1,15 @@
-//! Where two chains of kept epochs part.
+//! Where two chains of stored epochs part.
 
 ghost use Rattle.std.specs.Prelude.{◌<◌, IfNone, IfSome, length};
 ghost use Rattle.coniks_chain.specs.Fork.{HasNoFork};
-ghost use Rattle.coniks_client.specs.Kept.{entries_in};
+ghost use Rattle.coniks_client.specs.StoredEntry.{entries_in};
 ghost use Rattle.coniks_evidence.specs.Forks.{Compares, ForksAt};
 
 use coniks_chain::link;
-use coniks_client::Kept;
+use coniks_client::StoredEntry;
 use coniks_proof::Hash32;
 
-/// Two kept entries, side by side.
+/// Two stored entries, side by side.
 #[derive(Clone, Copy, Debug, PartialEq, Eq)]
 enum Pair {
     /// They are one entry.
@@ -27,8 +27,8 @@ pub(crate) struct Places {
     pub(crate) second: usize,
 }
 
-/// Compares two kept entries. Hashes nothing if they are equal.
-fn compare<H: Hash32>(h: &H, mine: &Kept, other: &Kept) -> Pair
+/// Compares two stored entries. Hashes nothing if they are equal.
+fn compare<H: Hash32>(h: &H, mine: &StoredEntry, other: &StoredEntry) -> Pair
     ensures { Compares (H.digest_of h.now) mine.now other.now result }
 {
     let e = mine.entry();
@@ -44,7 +44,7 @@ fn compare<H: Hash32>(h: &H, mine: &Kept, other: &Kept) -> Pair
 }
 
 /// From the ends, the places of the first two entries that differ, if they have one link.
-pub(crate) fn fork<H: Hash32>(h: &H, a: &[Kept], b: &[Kept]) -> Option<Places>
+pub(crate) fn fork<H: Hash32>(h: &H, a: &[StoredEntry], b: &[StoredEntry]) -> Option<Places>
     ensures none { IfNone result (HasNoFork (H.digest_of h.now) (entries_in a.now) (entries_in b.now)) }
     ensures some { IfSome result (λ places. ForksAt (H.digest_of h.now) a.now b.now places) }
     ensures first { IfSome result (λ places. places.first < length a.now) }

@@ -8,5 +8,5 @@ pub fn sound_records()
     ensures watcher { WatcherLaw }
     ensures found { FoundLaw }
 {
-    coniks_client::laws::told();
+    coniks_client::laws::reported();
 }

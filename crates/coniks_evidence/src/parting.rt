@@ -1,17 +1,18 @@
 //! Where two paths to one index part.
 
-ghost use Rattle.std.specs.Prelude.{◌≡◌, ◌≢◌, ◌+◌, ◌<◌, ◌≤◌, ◌⊎◌, ◌↔◌, ◌∷◌, List, drop, length, IfNone, IfSome, IsTrue};
-ghost use Rattle.coniks_proof.specs.Collisions.{IsSized, KeepsOff, Parts};
+ghost use Rattle.std.specs.Prelude.{◌≡◌, ◌+◌, ◌<◌, ◌≤◌, ◌⊎◌, ◌↔◌, ◌∷◌, List, drop, length, IfNone, IfSome, IsTrue};
+ghost use Rattle.coniks_proof.specs.Collisions.{IsSized, Parts};
 ghost use Rattle.coniks_proof.specs.Hashing.{hashing};
+ghost use Rattle.coniks_proof.specs.Meetings.{Contradict};
 ghost use Rattle.coniks_proof.specs.ProofRefs.{listed, owned};
-ghost use Rattle.coniks_proof.specs.Proofs.{LengthsFit, answer_of};
+ghost use Rattle.coniks_proof.specs.Proofs.{LengthsFit};
 ghost use Rattle.coniks_proof.specs.declared.values.Digest.{Digest as DigestOne};
 ghost use Rattle.coniks_proof.specs.declared.paths.End.{End};
 ghost use Rattle.coniks_evidence.specs.Parting.{Meets, OpenOne, Opens};
 
 use crate::paths::{Path, level_preimage};
 use crate::preimages::{Colliding, Preimage, full};
-use coniks_proof::{Digest, EndRef, Hash32, Index, MAX_LEVEL, Nonce, bit, commit_hash};
+use coniks_proof::{Digest, EndRef, Hash32, Index, MAX_LEVEL, Nonce, Spot, bit, commit_hash};
 
 /// The hashes of two paths at a level, and the first two strings from there down that differ.
 #[derive(Drop)]
@@ -75,38 +76,25 @@ fn one_commitment<'a, H: Hash32>(h: &H, a: &EndRef<'a>, b: &EndRef<'a>) -> Optio
 }
 
 /// Returns the first two strings that differ from a level down at which one of the paths ends.
-fn parted_at_end<'a, H: Hash32>(
-    h: &H,
-    nonce: &Nonce,
-    index: &Index,
-    level: usize,
-    a: &Path<'a>,
-    b: &Path<'a>,
-) -> Colliding<'a>
-    requires deep_a { length (listed a.now.siblings) ≤ MAX_LEVEL }
-    requires deep_b { length (listed b.now.siblings) ≤ MAX_LEVEL }
-    requires within_a { level ≤ length (listed a.now.siblings) }
-    requires within_b { level ≤ length (listed b.now.siblings) }
-    requires fits_a { LengthsFit (owned a.now.end) }
-    requires fits_b { LengthsFit (owned b.now.end) }
-    requires off_a { KeepsOff index.now.0 (owned a.now.end) }
-    requires off_b { KeepsOff index.now.0 (owned b.now.end) }
-    requires answers { answer_of (owned a.now.end) ≢ answer_of (owned b.now.end) }
-    requires ends { (length (listed a.now.siblings) ≡ level) ⊎ (length (listed b.now.siblings) ≡ level) }
-    ensures { Parts (hashing (H.digest_of h.now) nonce.now.0) index.now.0 level (drop level (listed a.now.siblings)) (owned a.now.end)
-        (drop level (listed b.now.siblings)) (owned b.now.end) result.x result.y }
+fn parted_at_end<'a, H: Hash32>(h: &H, spot: &Spot, a: &Path<'a>, b: &Path<'a>) -> Colliding<'a>
+    requires paths { Contradict spot.now.index.0 0 (listed a.now.siblings) (owned a.now.end) (listed b.now.siblings) (owned b.now.end) }
+    requires within_a { spot.now.level ≤ length (listed a.now.siblings) }
+    requires within_b { spot.now.level ≤ length (listed b.now.siblings) }
+    requires ends { (length (listed a.now.siblings) ≡ spot.now.level) ⊎ (length (listed b.now.siblings) ≡ spot.now.level) }
+    ensures { Parts (hashing (H.digest_of h.now) spot.now.nonce.0) spot.now.index.0 spot.now.level (drop spot.now.level (listed a.now.siblings)) (owned a.now.end)
+        (drop spot.now.level (listed b.now.siblings)) (owned b.now.end) result.x result.y }
 {
-    full(&index.0);
+    full(&spot.index.0);
     sized(&a.end);
     sized(&b.end);
     let nodes = Colliding {
-        x: level_preimage(h, nonce, index, level, a),
-        y: level_preimage(h, nonce, index, level, b),
+        x: level_preimage(h, spot, a),
+        y: level_preimage(h, spot, b),
     };
-    if level < a.siblings.len() {
+    if spot.level < a.siblings.len() {
         return nodes;
     }
-    if level < b.siblings.len() {
+    if spot.level < b.siblings.len() {
         return nodes;
     }
     match one_commitment(h, &a.end, &b.end) {
@@ -125,20 +113,18 @@ fn same_pairs(a: &Digest, b: &Digest, c: &Digest, d: &Digest) -> bool
 /// Climbs two paths one level up, from the one below it.
 fn climb<'a, H: Hash32>(
     h: &H,
-    nonce: &Nonce,
-    index: &Index,
-    level: usize,
+    spot: &Spot,
     siblings: &(Digest, Digest),
     below: Meeting<'a>,
 ) -> Meeting<'a>
-    requires { level < MAX_LEVEL }
-    ensures { (ss ts : List DigestOne) (end_a end_b : End) → Meets (hashing (H.digest_of h.now) nonce.now.0) index.now.0 (level + 1) ss end_a ts end_b below.entry
-        → Meets (hashing (H.digest_of h.now) nonce.now.0) index.now.0 level (siblings.now.0 ∷ ss) end_a (siblings.now.1 ∷ ts) end_b result }
+    requires { spot.now.level < MAX_LEVEL }
+    ensures { (ss ts : List DigestOne) (end_a end_b : End) → Meets (hashing (H.digest_of h.now) spot.now.nonce.0) spot.now.index.0 (spot.now.level + 1) ss end_a ts end_b below.entry
+        → Meets (hashing (H.digest_of h.now) spot.now.nonce.0) spot.now.index.0 spot.now.level (siblings.now.0 ∷ ss) end_a (siblings.now.1 ∷ ts) end_b result }
 {
     let (sibling_a, sibling_b) = siblings;
     full(&sibling_a.0);
     full(&sibling_b.0);
-    let goes_right = bit(index, level);
+    let goes_right = bit(&spot.index, spot.level);
     let x = Preimage::joined(goes_right, sibling_a, &below.a);
     let y = Preimage::joined(goes_right, sibling_b, &below.b);
     let a = x.hash(h);
@@ -168,26 +154,30 @@ pub(crate) fn parted<'a, H: Hash32>(
     a: &Path<'a>,
     b: &Path<'a>,
 ) -> Colliding<'a>
-    requires deep_a { length (listed a.now.siblings) ≤ MAX_LEVEL }
-    requires deep_b { length (listed b.now.siblings) ≤ MAX_LEVEL }
-    requires fits_a { LengthsFit (owned a.now.end) }
-    requires fits_b { LengthsFit (owned b.now.end) }
-    requires off_a { KeepsOff index.now.0 (owned a.now.end) }
-    requires off_b { KeepsOff index.now.0 (owned b.now.end) }
-    requires answers { answer_of (owned a.now.end) ≢ answer_of (owned b.now.end) }
+    requires { Contradict index.now.0 0 (listed a.now.siblings) (owned a.now.end) (listed b.now.siblings) (owned b.now.end) }
     ensures { Parts (hashing (H.digest_of h.now) nonce.now.0) index.now.0 0 (listed a.now.siblings) (owned a.now.end)
         (listed b.now.siblings) (owned b.now.end) result.x result.y }
 {
     let mut level = a.siblings.len().min(b.siblings.len());
+    let end = Spot {
+        nonce: *nonce,
+        index: *index,
+        level,
+    };
     let mut meeting = Meeting {
-        a: level_preimage(h, nonce, index, level, a).hash(h),
-        b: level_preimage(h, nonce, index, level, b).hash(h),
-        parts: parted_at_end(h, nonce, index, level, a, b),
+        a: level_preimage(h, &end, a).hash(h),
+        b: level_preimage(h, &end, b).hash(h),
+        parts: parted_at_end(h, &end, a, b),
     };
     while level > 0 {
         level -= 1;
         let siblings = (a.siblings.at(level), b.siblings.at(level));
-        meeting = climb(h, nonce, index, level, &siblings, meeting);
+        let spot = Spot {
+            nonce: *nonce,
+            index: *index,
+            level,
+        };
+        meeting = climb(h, &spot, &siblings, meeting);
     }
     meeting.parts
 }

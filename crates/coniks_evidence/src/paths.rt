@@ -6,7 +6,7 @@ ghost use Rattle.coniks_proof.specs.ProofRefs.{listed, owned};
 ghost use Rattle.coniks_proof.specs.Proofs.{LengthsFit, end_preimage, preimage};
 
 use crate::preimages::Preimage;
-use coniks_proof::{EndRef, Hash32, Index, MAX_LEVEL, Nonce, Siblings, bit, commit_hash};
+use coniks_proof::{EndRef, Hash32, Index, MAX_LEVEL, Nonce, Siblings, Spot, bit, commit_hash};
 
 /// A path to an index: the siblings beside it from the root down, and its end.
 #[derive(Clone, Copy)]
@@ -41,24 +41,18 @@ fn end_preimage<'a, H: Hash32>(
 }
 
 /// Returns what is hashed at a level on a path to an index.
-pub(crate) fn level_preimage<'a, H: Hash32>(
-    h: &H,
-    nonce: &Nonce,
-    index: &Index,
-    level: usize,
-    path: &Path<'a>,
-) -> Preimage<'a>
-    requires level { level ≤ length (listed path.now.siblings) }
+pub(crate) fn level_preimage<'a, H: Hash32>(h: &H, spot: &Spot, path: &Path<'a>) -> Preimage<'a>
+    requires level { spot.now.level ≤ length (listed path.now.siblings) }
     requires deep { length (listed path.now.siblings) ≤ MAX_LEVEL }
     requires fits { LengthsFit (owned path.now.end) }
-    ensures { result ≡ preimage (hashing (H.digest_of h.now) nonce.now.0) index.now.0 level (drop level (listed path.now.siblings)) (owned path.now.end) }
+    ensures { result ≡ preimage (hashing (H.digest_of h.now) spot.now.nonce.0) spot.now.index.0 spot.now.level (drop spot.now.level (listed path.now.siblings)) (owned path.now.end) }
 {
     let mut place = path.siblings.len();
-    let mut node = end_preimage(h, nonce, index, place, &path.end);
-    while place > level {
+    let mut node = end_preimage(h, &spot.nonce, &spot.index, place, &path.end);
+    while place > spot.level {
         place -= 1;
         let below = node.hash(h);
-        node = Preimage::joined(bit(index, place), &path.siblings.at(place), &below);
+        node = Preimage::joined(bit(&spot.index, place), &path.siblings.at(place), &below);
     }
     node
 }

@@ -2,14 +2,14 @@
 
 ghost use Rattle.std.specs.Prelude.{◌≡◌, ◌↔◌, Option, IfErr, IfOk, IsOkAnd, IsTrue};
 ghost use Rattle.coniks_proof.specs.Octets.{Octets};
-ghost use Rattle.coniks_proof.specs.Proofs.{said};
+ghost use Rattle.coniks_proof.specs.Proofs.{stated};
 ghost use Rattle.coniks_client.specs.Lookups.{Answers, AnswersNone, Shows, ShowsNone};
 ghost use Rattle.coniks_chain.specs.Entries.{entry_from};
-ghost use Rattle.coniks_evidence.specs.Records.{IsHeld, IsShown, IsShownIn, IsUnaccepted, IsUnheld, IsVerified};
+ghost use Rattle.coniks_evidence.specs.Records.{IsFound, IsShown, IsShownIn, IsUnaccepted, IsNotFound, IsVerified};
 
 use coniks_chain::{ENTRY_BYTES, Entry};
-use coniks_client::lookups::kept_of;
-use coniks_client::{IndexScheme, Kept, LookupFault, Reply};
+use coniks_client::lookups::stored_of;
+use coniks_client::{IndexScheme, LookupFault, Reply, StoredEntry};
 use coniks_proof::{Answer, Hash32, Index, ProofRef, check_ref};
 
 /// A proof, and the answer with which it is accepted.
@@ -28,10 +28,17 @@ pub(crate) struct Saved<'a> {
     pub(crate) answer: Answer<'a>,
 }
 
-/// A kept epoch, and what a saved reply shows there.
+/// Who verifies saved replies: the caller's hash and index scheme.
 #[derive(Drop)]
-pub(crate) struct Held<'a> {
-    pub(crate) mine: Kept,
+pub struct ReplyVerifier<'h, H, S> {
+    pub hash: &'h H,
+    pub indices: &'h S,
+}
+
+/// A stored epoch, and what a saved reply shows there.
+#[derive(Drop)]
+pub(crate) struct FoundReply<'a> {
+    pub(crate) mine: StoredEntry,
     pub(crate) saved: Saved<'a>,
 }
 
@@ -45,7 +52,7 @@ fn shown_by<'a, H: Hash32>(
 ) -> Result<Accepted<'a>, LookupFault>
     ensures ok { IfOk result (λ a. IsShown (H.digest_of h.now) entry.now index.now.0 name.now bytes.now a.proof a.answer) }
     ensures exact { (answer : Option Octets) → Shows (H.digest_of h.now) entry.now index.now.0 name.now bytes.now answer
-        → IsOkAnd result (λ a. said a.answer ≡ answer) }
+        → IsOkAnd result (λ a. stated a.answer ≡ answer) }
     ensures err { IfErr result (λ fault. ShowsNone (H.digest_of h.now) entry.now index.now.0 name.now bytes.now fault) }
 {
     let proof = match ProofRef::read(bytes) {
@@ -59,26 +66,24 @@ fn shown_by<'a, H: Hash32>(
     }
 }
 
-/// Returns what a VRF proof and the bytes of a proof show of a name under an entry.
+/// Returns what the VRF proof and the proof of a reply show of a name under an entry.
 fn verified<'a, H: Hash32, S: IndexScheme>(
-    h: &H,
-    scheme: &S,
+    by: &ReplyVerifier<'_, H, S>,
     entry: &Entry,
     name: &[u8],
-    vrf: &'a [u8],
-    bytes: &'a [u8],
+    reply: &Reply<'a>,
 ) -> Result<Saved<'a>, LookupFault>
-    ensures ok { IfOk result (λ saved. IsVerified (H.digest_of h.now) (S.index_of scheme.now) entry.now name.now vrf.now bytes.now saved) }
-    ensures exact { (answer : Option Octets) → Answers (H.digest_of h.now) (S.index_of scheme.now) entry.now name.now vrf.now bytes.now answer
-        → IsOkAnd result (λ saved. said saved.answer ≡ answer) }
-    ensures err { IfErr result (λ fault. AnswersNone (H.digest_of h.now) (S.index_of scheme.now) entry.now name.now vrf.now bytes.now fault) }
+    ensures ok { IfOk result (λ saved. IsVerified (H.digest_of by.now.hash.now) (S.index_of by.now.indices.now) entry.now name.now reply.now.vrf.now reply.now.proof.now saved) }
+    ensures exact { (answer : Option Octets) → Answers (H.digest_of by.now.hash.now) (S.index_of by.now.indices.now) entry.now name.now reply.now.vrf.now reply.now.proof.now answer
+        → IsOkAnd result (λ saved. stated saved.answer ≡ answer) }
+    ensures err { IfErr result (λ fault. AnswersNone (H.digest_of by.now.hash.now) (S.index_of by.now.indices.now) entry.now name.now reply.now.vrf.now reply.now.proof.now fault) }
 {
-    let Some(index) = scheme.index(name, vrf) else {
+    let Some(index) = by.indices.index(name, reply.vrf) else {
         return Err(LookupFault::VrfProof);
     };
-    match shown_by(h, entry, &index, name, bytes) {
+    match shown_by(by.hash, entry, &index, name, reply.proof) {
         Ok(Accepted { proof, answer }) => Ok(Saved {
-            vrf,
+            vrf: reply.vrf,
             index,
             proof,
             answer,
@@ -96,49 +101,47 @@ fn same_body(bytes: &[u8; ENTRY_BYTES], entry: &Entry) -> bool
 
 /// Returns what the parts of a reply show of a name under an entry.
 fn saved_under<'a, H: Hash32, S: IndexScheme>(
-    h: &H,
-    scheme: &S,
+    by: &ReplyVerifier<'_, H, S>,
     entry: &Entry,
     name: &[u8],
     reply: &Reply<'a>,
 ) -> Result<Saved<'a>, LookupFault>
     ensures same { IfOk result (λ _. (entry_from reply.now.entry.now).body ≡ entry.now.body) }
-    ensures ok { IfOk result (λ saved. IsVerified (H.digest_of h.now) (S.index_of scheme.now) entry.now name.now reply.now.vrf.now reply.now.proof.now saved) }
+    ensures ok { IfOk result (λ saved. IsVerified (H.digest_of by.now.hash.now) (S.index_of by.now.indices.now) entry.now name.now reply.now.vrf.now reply.now.proof.now saved) }
     ensures exact { (answer : Option Octets) → (entry_from reply.now.entry.now).body ≡ entry.now.body
-        → Answers (H.digest_of h.now) (S.index_of scheme.now) entry.now name.now reply.now.vrf.now reply.now.proof.now answer
-        → IsOkAnd result (λ saved. said saved.answer ≡ answer) }
-    ensures err { IfErr result (λ fault. IsUnaccepted (H.digest_of h.now) (S.index_of scheme.now) entry.now name.now
+        → Answers (H.digest_of by.now.hash.now) (S.index_of by.now.indices.now) entry.now name.now reply.now.vrf.now reply.now.proof.now answer
+        → IsOkAnd result (λ saved. stated saved.answer ≡ answer) }
+    ensures err { IfErr result (λ fault. IsUnaccepted (H.digest_of by.now.hash.now) (S.index_of by.now.indices.now) entry.now name.now
         (entry_from reply.now.entry.now).body reply.now.vrf.now reply.now.proof.now fault) }
 {
     if !same_body(reply.entry, entry) {
         return Err(LookupFault::OtherEpoch);
     }
-    verified(h, scheme, entry, name, reply.vrf, reply.proof)
+    verified(by, entry, name, reply)
 }
 
-/// Returns what a saved reply shows of a name at an epoch of the kept ones.
-pub(crate) fn held_at<'a, H: Hash32, S: IndexScheme>(
-    h: &H,
-    scheme: &S,
-    kept: &[Kept],
+/// Returns what a saved reply shows of a name at an epoch of the stored ones.
+pub(crate) fn found_at<'a, H: Hash32, S: IndexScheme>(
+    by: &ReplyVerifier<'_, H, S>,
+    stored: &[StoredEntry],
     epoch: u64,
     name: &[u8],
     bytes: &'a [u8],
-) -> Result<Held<'a>, LookupFault>
-    ensures ok { IfOk result (λ held. IsHeld (H.digest_of h.now) (S.index_of scheme.now) kept.now epoch name.now bytes.now held) }
-    ensures exact { (answer : Option Octets) → IsShownIn (H.digest_of h.now) (S.index_of scheme.now) kept.now epoch name.now bytes.now answer
-        → IsOkAnd result (λ held. said held.saved.answer ≡ answer) }
-    ensures err { IfErr result (λ fault. IsUnheld (H.digest_of h.now) (S.index_of scheme.now) kept.now epoch name.now bytes.now fault) }
+) -> Result<FoundReply<'a>, LookupFault>
+    ensures ok { IfOk result (λ found. IsFound (H.digest_of by.now.hash.now) (S.index_of by.now.indices.now) stored.now epoch name.now bytes.now found) }
+    ensures exact { (answer : Option Octets) → IsShownIn (H.digest_of by.now.hash.now) (S.index_of by.now.indices.now) stored.now epoch name.now bytes.now answer
+        → IsOkAnd result (λ found. stated found.saved.answer ≡ answer) }
+    ensures err { IfErr result (λ fault. IsNotFound (H.digest_of by.now.hash.now) (S.index_of by.now.indices.now) stored.now epoch name.now bytes.now fault) }
 {
     let reply = match Reply::read(bytes) {
         Ok(reply) => reply,
         Err(fault) => return Err(LookupFault::NoReply(fault)),
     };
-    let Some(found) = kept_of(kept, epoch) else {
+    let Some(found) = stored_of(stored, epoch) else {
         return Err(LookupFault::UnknownEpoch);
     };
-    match saved_under(h, scheme, &found.mine.entry(), name, &reply) {
-        Ok(saved) => Ok(Held {
+    match saved_under(by, &found.mine.entry(), name, &reply) {
+        Ok(saved) => Ok(FoundReply {
             mine: found.mine,
             saved,
         }),

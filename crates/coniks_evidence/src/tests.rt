@@ -4,9 +4,9 @@ mod clients;
 mod directories;
 mod worlds;
 
-use crate::{ContactRecord, Finding, OwnerRecord, Preimage, Reason, examine};
+use crate::{ContactRecord, Finding, OwnerRecord, Preimage, Reason, ReplyVerifier, examine};
 use coniks_chain::ENTRY_BYTES;
-use coniks_client::{IndexScheme, Kept, Watch};
+use coniks_client::{IndexScheme, StoredEntry, Watch};
 use coniks_proof::{Digest, Flat, Head, Index};
 use std::alloc::Global;
 use std::process::Abort;
@@ -38,8 +38,8 @@ fn entry(nonce: u8) -> [u8; ENTRY_BYTES] {
     bytes
 }
 
-fn kept(entry: [u8; ENTRY_BYTES]) -> Kept {
-    Kept {
+fn stored(entry: [u8; ENTRY_BYTES]) -> StoredEntry {
+    StoredEntry {
         entry,
         first_seen: [0; 8],
         seen: 1,
@@ -92,9 +92,9 @@ const ZEROS: Digest = Digest([0; 32]);
 
 /// Returns what the records of `alice`, who expects the key 7, and of a contact contain.
 fn found<'a>(
-    hers: &'a [Kept],
+    hers: &'a [StoredEntry],
     mine: &'a [u8],
-    his: &'a [Kept],
+    his: &'a [StoredEntry],
     other: &'a [u8],
     epoch: u64,
 ) -> Finding<'a> {
@@ -104,23 +104,27 @@ fn found<'a>(
         key: b"\x07",
     };
     let owner = OwnerRecord {
-        kept: hers,
+        stored: hers,
         watch,
         changes: &[],
         reply: mine,
     };
     let contact = ContactRecord {
-        kept: his,
+        stored: his,
         reply: other,
     };
     let head = Head { epoch, link: ZEROS };
-    examine(&Flat, &Proof32, &head, 1, &owner, &contact)
+    let by = ReplyVerifier {
+        hash: &Flat,
+        indices: &Proof32,
+    };
+    examine(&by, &head, 1, &owner, &contact)
 }
 
 #[test]
 fn two_keys_in_one_commitment(rt: HostRuntime) {
     let bytes = entry(0);
-    let chain = [kept(bytes)];
+    let chain = [stored(bytes)];
     let mine = reply(&rt, rt.alloc(), &bytes, 0, 1, 7);
     let other = reply(&rt, rt.alloc(), &bytes, 0, 2, 8);
     match found(&chain, &mine, &chain, &other, 1) {
@@ -134,8 +138,8 @@ fn two_keys_in_one_commitment(rt: HostRuntime) {
 
 #[test]
 fn two_entries_with_one_link(rt: HostRuntime) {
-    let hers = [kept(entry(0))];
-    let his = [kept(entry(5))];
+    let hers = [stored(entry(0))];
+    let his = [stored(entry(5))];
     match found(&hers, b"", &his, b"", 1) {
         Finding::Links(pair) => {
             assert!(rt; is_written(&pair.x, &[b"S", &entry(0)]));
@@ -148,7 +152,7 @@ fn two_entries_with_one_link(rt: HostRuntime) {
 #[test]
 fn two_indices(rt: HostRuntime) {
     let bytes = entry(0);
-    let chain = [kept(bytes)];
+    let chain = [stored(bytes)];
     let mine = reply(&rt, rt.alloc(), &bytes, 0, 1, 7);
     let other = reply(&rt, rt.alloc(), &bytes, 3, 1, 7);
     match found(&chain, &mine, &chain, &other, 1) {
@@ -163,7 +167,7 @@ fn two_indices(rt: HostRuntime) {
 #[test]
 fn nothing_convicts(rt: HostRuntime) {
     let bytes = entry(0);
-    let chain = [kept(bytes)];
+    let chain = [stored(bytes)];
     let mine = reply(&rt, rt.alloc(), &bytes, 0, 1, 7);
     let other = reply(&rt, rt.alloc(), &bytes, 0, 1, 8);
     assert!(rt; matches!(found(&chain, &mine, &chain, &mine, 1), Finding::Same));

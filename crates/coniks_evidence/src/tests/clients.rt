@@ -2,11 +2,13 @@
 
 use crate::tests::Proof32;
 use crate::tests::directories::{ALICE, FIRST, Flawed, POLICY, Shown, Signed, entry_after, reply};
-use crate::{Colliding, ContactRecord, Finding, OwnerRecord, Preimage, Reason, examine};
+use crate::{
+    Colliding, ContactRecord, Finding, OwnerRecord, Preimage, Reason, ReplyVerifier, examine,
+};
 use coniks_chain::{ENTRY_BYTES, link};
 use coniks_client::watching::SAME;
 use coniks_client::{
-    Accepted, Asking, Change, Fed, IndexScheme, Kept, LookupFault, Present, Verifier, Watch,
+    Accepted, Asking, Change, Fed, IndexScheme, LookupFault, Present, StoredEntry, Verifier, Watch,
     expect, feed, latest_epoch, look_up, lookup,
 };
 use coniks_proof::{Answer, Hash32, Head, Sha256Hash};
@@ -15,7 +17,7 @@ use std::process::Abort;
 
 /// What a client is shown at an epoch: the entry, a reply, and the key in it, which has no byte if it shows none.
 #[derive(Drop)]
-pub(crate) struct Told<'a> {
+pub(crate) struct Reported<'a> {
     pub(crate) epoch: u64,
     pub(crate) entry: [u8; ENTRY_BYTES],
     pub(crate) reply: Vec<u8>,
@@ -25,10 +27,10 @@ pub(crate) struct Told<'a> {
 /// Alice, whose client has watched her name since epoch 1 and was told `same` at each epoch.
 #[derive(Drop)]
 pub(crate) struct Owner<'a> {
-    pub(crate) kept: Vec<Kept>,
+    pub(crate) stored: Vec<StoredEntry>,
     pub(crate) watch: Watch<'a>,
     pub(crate) changes: Vec<Change<'a>>,
-    pub(crate) told: Vec<Told<'a>>,
+    pub(crate) reported: Vec<Reported<'a>>,
 }
 
 /// What Bob's client was shown.
@@ -161,7 +163,7 @@ fn asking(epoch: u64, reply: &[u8]) -> Asking<'_> {
 pub(crate) fn goes_on(
     rt: &impl Abort,
     h: &Flawed,
-    kept: &mut Vec<Kept>,
+    stored: &mut Vec<StoredEntry>,
     watch: &Option<Watch<'_>>,
     entry: &[u8; ENTRY_BYTES],
 ) -> bool {
@@ -170,9 +172,9 @@ pub(crate) fn goes_on(
         entry,
         time: 0,
     };
-    match feed(*h, &Signed, kept, watch, &fed) {
+    match feed(*h, &Signed, stored, watch, &fed) {
         Ok(Accepted::Next(next)) => {
-            kept.push(next).expect(rt, "memory");
+            stored.push(next).expect(rt, "memory");
             true
         }
         _ => false,
@@ -188,29 +190,29 @@ impl<'a> Owner<'a> {
             key: first.tree.key(),
         };
         Owner {
-            kept: Vec::new(alloc),
+            stored: Vec::new(alloc),
             watch,
             changes: Vec::new(alloc),
-            told: Vec::new(alloc),
+            reported: Vec::new(alloc),
         }
     }
 
-    /// Feeds her client the entry of a tree, and looks her name up. If her key changes, she has said so before.
+    /// Feeds her client the entry of a tree, and looks her name up. If her key changes, she has announced it before.
     pub(crate) fn see(&mut self, rt: &impl Abort, alloc: Global, h: &Flawed, shown: &'a Shown) {
-        let entry = entry_after(h, &self.kept, &shown.root);
-        let latest = latest_epoch(&self.kept);
+        let entry = entry_after(h, &self.stored, &shown.root);
+        let latest = latest_epoch(&self.stored);
         let key = shown.tree.key();
         if let Ok(change) = expect(self.watch.key, &self.changes, latest, key, u64::MAX) {
             self.changes.push(change).expect(rt, "memory");
         }
         let watch = Some(self.watch);
-        assert!(rt; goes_on(rt, h, &mut self.kept, &watch, &entry));
-        let epoch = latest_epoch(&self.kept);
+        assert!(rt; goes_on(rt, h, &mut self.stored, &watch, &entry));
+        let epoch = latest_epoch(&self.stored);
         let reply = reply(rt, alloc, &entry, &FIRST, &shown.proof);
         let asking = asking(epoch, &reply);
         match look_up(
             &verifier(h, &Proof32),
-            &mut self.kept,
+            &mut self.stored,
             &watch,
             &mut self.changes,
             &asking,
@@ -218,13 +220,13 @@ impl<'a> Owner<'a> {
             Ok(seen) => assert!(rt; seen.number == Some(SAME)),
             Err(_) => assert!(rt; false),
         }
-        let told = Told {
+        let reported = Reported {
             epoch,
             entry,
             reply,
             key,
         };
-        self.told.push(told).expect(rt, "memory");
+        self.reported.push(reported).expect(rt, "memory");
     }
 }
 
@@ -233,16 +235,16 @@ pub(crate) fn refusal<S: IndexScheme>(
     rt: &impl Abort,
     h: &Flawed,
     indices: &S,
-    kept: &[Kept],
-    told: &Told<'_>,
+    stored: &[StoredEntry],
+    reported: &Reported<'_>,
 ) -> Option<LookupFault> {
     match lookup(
         &verifier(h, indices),
-        kept,
-        &asking(told.epoch, &told.reply),
+        stored,
+        &asking(reported.epoch, &reported.reply),
     ) {
         Ok(found) => {
-            assert!(rt; is_key(&found.answer, told.key));
+            assert!(rt; is_key(&found.answer, reported.key));
             None
         }
         Err(fault) => Some(fault),
@@ -254,27 +256,35 @@ pub(crate) fn count_heads(
     rt: &impl Abort,
     h: &Flawed,
     owner: &Owner<'_>,
-    mine: &Told<'_>,
-    kept: &[Kept],
-    other: &Told<'_>,
+    mine: &Reported<'_>,
+    stored: &[StoredEntry],
+    other: &Reported<'_>,
     counts: &mut Counts,
 ) {
     let record = OwnerRecord {
-        kept: &owner.kept,
+        stored: &owner.stored,
         watch: owner.watch,
         changes: &owner.changes,
         reply: &mine.reply,
     };
     let contact = ContactRecord {
-        kept,
+        stored,
         reply: &other.reply,
     };
-    for last in owner.kept.iter().filter(|last| mine.epoch <= last.epoch()) {
+    let by = ReplyVerifier {
+        hash: h,
+        indices: &Proof32,
+    };
+    for last in owner
+        .stored
+        .iter()
+        .filter(|last| mine.epoch <= last.epoch())
+    {
         let head = Head {
             epoch: last.epoch(),
             link: link(h, &last.entry()),
         };
-        let finding = examine(h, &Proof32, &head, mine.epoch, &record, &contact);
+        let finding = examine(&by, &head, mine.epoch, &record, &contact);
         counts.count(rt, h, &finding, *other.key == *mine.key);
     }
 }

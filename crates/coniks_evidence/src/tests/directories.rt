@@ -4,7 +4,7 @@
 //! is the root.
 
 use coniks_chain::{BODY_BYTES, Body, ENTRY_BYTES, Entry, Signature, Verify, link};
-use coniks_client::Kept;
+use coniks_client::StoredEntry;
 use coniks_proof::{
     Digest, Hash32, Index, Nonce, Opening, Prefix, Sha256Hash, commit_hash, empty_hash, inner_hash,
     leaf_hash,
@@ -310,9 +310,13 @@ pub(crate) fn hashes<H: Hash32>(
     hashes
 }
 
-/// Returns the bytes of the entry after the kept ones, with a root.
-pub(crate) fn entry_after<H: Hash32>(h: &H, kept: &[Kept], root: &Digest) -> [u8; ENTRY_BYTES] {
-    let (t_prev, previous) = match kept.last() {
+/// Returns the bytes of the entry after the stored ones, with a root.
+pub(crate) fn entry_after<H: Hash32>(
+    h: &H,
+    stored: &[StoredEntry],
+    root: &Digest,
+) -> [u8; ENTRY_BYTES] {
+    let (t_prev, previous) = match stored.last() {
         Some(last) => (last.epoch(), link(h, &last.entry())),
         None => (0, Digest([0; 32])),
     };

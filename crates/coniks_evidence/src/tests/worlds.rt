@@ -4,13 +4,13 @@
 //! The expected counts follow from the numbers of trees, keys and strings.
 
 use crate::tests::Proof32;
-use crate::tests::clients::{Counts, NO_COUNTS, Owner, Told, count_heads, goes_on, refusal};
+use crate::tests::clients::{Counts, NO_COUNTS, Owner, Reported, count_heads, goes_on, refusal};
 use crate::tests::directories::{
     ALICE, Bound, CAROL, FIRST, Flawed, SHA256, Shown, all_shown, colliding, entry_after, hashes,
     reply, second,
 };
 use coniks_chain::{Entry, link};
-use coniks_client::{IndexScheme, Kept, LookupFault};
+use coniks_client::{IndexScheme, LookupFault, StoredEntry};
 use coniks_proof::{CheckFault, Index, Sha256Hash};
 use std::alloc::Global;
 use std::process::Abort;
@@ -48,19 +48,19 @@ fn show_each(
     alloc: Global,
     h: &Flawed,
     owner: &Owner<'_>,
-    mine: &Told<'_>,
+    mine: &Reported<'_>,
     all: &[Shown],
     counts: &mut Counts,
 ) {
     for shown in all {
-        let other = Told {
+        let other = Reported {
             epoch: mine.epoch,
             entry: mine.entry,
             reply: reply(rt, alloc, &mine.entry, &FIRST, &shown.proof),
             key: shown.tree.key(),
         };
-        match refusal(rt, h, &Proof32, &owner.kept, &other) {
-            None => count_heads(rt, h, owner, mine, &owner.kept, &other, counts),
+        match refusal(rt, h, &Proof32, &owner.stored, &other) {
+            None => count_heads(rt, h, owner, mine, &owner.stored, &other, counts),
             Some(fault) => {
                 assert!(rt; fault == LookupFault::Check(CheckFault::RootMismatch));
                 counts.count_refused();
@@ -78,7 +78,7 @@ fn show_at_each(
     all: &[Shown],
     counts: &mut Counts,
 ) {
-    for mine in &owner.told {
+    for mine in &owner.reported {
         show_each(rt, alloc, h, owner, mine, all, counts);
     }
 }
@@ -155,7 +155,7 @@ fn each_two_strings(rt: HostRuntime) {
 }
 
 /// Returns what Bob is shown at an epoch: `other`, if it is of this epoch, else what Alice is shown.
-fn told_bob<'a, 'b>(mine: &'a Told<'b>, other: &'a Told<'b>) -> &'a Told<'b> {
+fn reported_bob<'a, 'b>(mine: &'a Reported<'b>, other: &'a Reported<'b>) -> &'a Reported<'b> {
     if mine.epoch == other.epoch {
         other
     } else {
@@ -169,18 +169,18 @@ fn chain_of_bob<'a>(
     alloc: Global,
     h: &Flawed,
     owner: &Owner<'a>,
-    other: &Told<'a>,
+    other: &Reported<'a>,
     counts: &mut Counts,
-) -> Vec<Kept> {
-    let mut kept = Vec::new(alloc);
-    for mine in &owner.told {
-        let entry = told_bob(mine, &*other).entry;
-        if !goes_on(rt, h, &mut kept, &None, &entry) {
+) -> Vec<StoredEntry> {
+    let mut stored = Vec::new(alloc);
+    for mine in &owner.reported {
+        let entry = reported_bob(mine, &*other).entry;
+        if !goes_on(rt, h, &mut stored, &None, &entry) {
             counts.count_refused();
             break;
         }
     }
-    kept
+    stored
 }
 
 /// Shows Bob another entry and its tree at one epoch.
@@ -189,14 +189,14 @@ fn show_fork<'a>(
     alloc: Global,
     h: &Flawed,
     owner: &Owner<'a>,
-    other: &Told<'a>,
+    other: &Reported<'a>,
     counts: &mut Counts,
 ) {
-    let kept = chain_of_bob(rt, alloc, h, owner, other, counts);
-    for mine in owner.told.iter().take(kept.len()) {
-        let told = told_bob(mine, &*other);
-        assert!(rt; refusal(rt, h, &Proof32, &kept, told).is_none());
-        count_heads(rt, h, owner, mine, &kept, told, counts);
+    let stored = chain_of_bob(rt, alloc, h, owner, other, counts);
+    for mine in owner.reported.iter().take(stored.len()) {
+        let reported = reported_bob(mine, &*other);
+        assert!(rt; refusal(rt, h, &Proof32, &stored, reported).is_none());
+        count_heads(rt, h, owner, mine, &stored, reported, counts);
     }
 }
 
@@ -216,11 +216,11 @@ fn show_forks<'a>(
     all: &'a [Shown],
     counts: &mut ForkCounts,
 ) {
-    assert!(rt; place < owner.kept.len());
-    let mine = &owner.kept[place];
+    assert!(rt; place < owner.stored.len());
+    let mine = &owner.stored[place];
     for shown in all {
-        let entry = entry_after(&SHA256, &owner.kept[..place], &shown.root);
-        let other = Told {
+        let entry = entry_after(&SHA256, &owner.stored[..place], &shown.root);
+        let other = Reported {
             epoch: mine.epoch(),
             entry,
             reply: reply(rt, alloc, &entry, &FIRST, &shown.proof),
@@ -250,7 +250,7 @@ fn show_all_forks<'a>(
     all: &'a [Shown],
     counts: &mut ForkCounts,
 ) {
-    for place in 0..owner.kept.len() {
+    for place in 0..owner.stored.len() {
         show_forks(rt, alloc, owner, place, all, counts);
     }
 }
@@ -315,21 +315,21 @@ fn show_second(
 ) {
     assert!(rt; all.len() == TREES);
     let mut rest = history;
-    for mine in &owner.told {
+    for mine in &owner.reported {
         let tree = &all[rest % TREES].tree;
         rest /= TREES;
         let proof = tree.second_proof(rt, alloc, &SHA256);
-        let other = Told {
+        let other = Reported {
             epoch: mine.epoch,
             entry: mine.entry,
             reply: reply(rt, alloc, &mine.entry, &second(), &proof),
             key: tree.second_key(),
         };
         assert!(rt;
-            refusal(rt, &SHA256, &OneIndex, &owner.kept, &other) == Some(LookupFault::VrfProof)
+            refusal(rt, &SHA256, &OneIndex, &owner.stored, &other) == Some(LookupFault::VrfProof)
         );
-        assert!(rt; refusal(rt, &SHA256, &Proof32, &owner.kept, &other).is_none());
-        count_heads(rt, &SHA256, owner, mine, &owner.kept, &other, counts);
+        assert!(rt; refusal(rt, &SHA256, &Proof32, &owner.stored, &other).is_none());
+        count_heads(rt, &SHA256, owner, mine, &owner.stored, &other, counts);
     }
 }
 

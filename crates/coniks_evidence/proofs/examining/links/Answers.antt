@@ -1,5 +1,5 @@
 use Rattle.coniks_chain.proofs.Lemmas.{collides}
-use Rattle.coniks_client.specs.Kept.{entries_in, entry_in}
+use Rattle.coniks_client.specs.StoredEntry.{entries_in, entry_in}
 use Rattle.coniks_evidence.proofs.FindingLemmas.{entry_there, link_at}
 use Rattle.coniks_evidence.proofs.examining.links.Goals as goal
 
