@@ -117,10 +117,10 @@ leaves_name hash index_of s p name whole =
 -- a function with one more index agrees on a registry that lacks the name, or has it with this index
 pub supplied_agree : (index_of also : List ℕ → List ℕ) (name index : List ℕ) (registry : Registry)
     → IsSupplied index_of name index also → (has_name registry name ≡ true → index_of name ≡ index) → AgreeOn index_of also registry
-supplied_agree index_of also name index registry supplied kept n has = (elim (bytes_eq n name) as (λ v. bytes_eq n name ≡ v → index_of n ≡ also n) [
+supplied_agree index_of also name index registry supplied retained n has = (elim (bytes_eq n name) as (λ v. bytes_eq n name ≡ v → index_of n ≡ also n) [
   | true ↦ λ on.
       let same = (bytes_eq-Decides n name).0 on in
-      ap index_of same ∙ kept (subst (λ m. has_name registry m ≡ true) same has) ∙ sym supplied.here ∙ ap also (sym same)
+      ap index_of same ∙ retained (subst (λ m. has_name registry m ≡ true) same has) ∙ sym supplied.here ∙ ap also (sym same)
   | false ↦ λ off. sym (supplied.others n (λ same. let on = eq_same n name same in cc))
 ]) refl
 
@@ -184,7 +184,7 @@ module _ (hash index_of also : List ℕ → List ℕ) where
 
     pub whole_records : Whole hash index_of s → Whole hash also s
     whole_records whole = record {
-      held = λ k e at. holds_agree e (whole.held k e at);
+      stored = λ k e at. holds_agree e (whole.stored k e at);
       last = whole.last;
       begun = whole.begun;
       rising = whole.rising;

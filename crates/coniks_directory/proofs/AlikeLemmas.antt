@@ -128,9 +128,9 @@ roots_same hash index_of s r whole other k j x y at_x at_y alike =
     let e = get-mapped (shown_of s.records) s.epochs k x at_x in
     let f = get-mapped (shown_of r.records) r.epochs j y at_y in
     let left : IsMap (entries_of hash index_of x.registry) =
-    subst (λ (z : Shown). IsMap (entries_of hash index_of z.registry)) e.2 (whole.held k e.0 e.1).registry.mirrors.names in
+    subst (λ (z : Shown). IsMap (entries_of hash index_of z.registry)) e.2 (whole.stored k e.0 e.1).registry.mirrors.names in
     let right : IsMap (entries_of hash index_of y.registry) =
-    subst (λ (z : Shown). IsMap (entries_of hash index_of z.registry)) f.2 (other.held j f.0 f.1).registry.mirrors.names in
+    subst (λ (z : Shown). IsMap (entries_of hash index_of z.registry)) f.2 (other.stored j f.0 f.1).registry.mirrors.names in
     ap (λ (n : List ℕ). root_at hash index_of (record x { nonce = n })) alike.nonce
     ∙ node-same (hashing hash y.nonce) [] (entries_of hash index_of x.registry) (entries_of hash index_of y.registry) left right
     (entries_same hash index_of x.registry y.registry alike.registry)
@@ -232,12 +232,12 @@ module _ (hash index_of : List ℕ → List ℕ) (s r : State) (whole : Whole ha
   left_map : IsMap (entries_of hash index_of x.registry)
   left_map =
       let e = get-mapped (shown_of s.records) s.epochs k x at_x in
-      subst (λ (z : Shown). IsMap (entries_of hash index_of z.registry)) e.2 (whole.held k e.0 e.1).registry.mirrors.names
+      subst (λ (z : Shown). IsMap (entries_of hash index_of z.registry)) e.2 (whole.stored k e.0 e.1).registry.mirrors.names
 
   right_map : IsMap (entries_of hash index_of y.registry)
   right_map =
       let f = get-mapped (shown_of r.records) r.epochs j y at_y in
-      subst (λ (z : Shown). IsMap (entries_of hash index_of z.registry)) f.2 (other.held j f.0 f.1).registry.mirrors.names
+      subst (λ (z : Shown). IsMap (entries_of hash index_of z.registry)) f.2 (other.stored j f.0 f.1).registry.mirrors.names
 
   pub keys_same : (name : List ℕ) → key_of x.registry name ≡ key_of y.registry name
   keys_same name = ap (option_map (λ (b : Registered). b.key)) (bound_same hash index_of x.registry y.registry name right_map alike.registry)

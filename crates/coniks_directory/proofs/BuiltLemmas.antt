@@ -70,16 +70,16 @@ module _ (hash index_of : List ℕ → List ℕ) (old : List Record) (es : List 
         let stays = overlaid_new registry (map bound_by ops) (registered_of r.1) may.once bound in
         subst (λ (e : Entry Registered). IsIn e (entries_of hash index_of (after registry ops))) (new_entry r.0 r.1 r.2 ∙ ap (backed_by binding) r.3)
         (entry_in hash index_of (registered_of r.1) (after registry ops) stays)
-    | inr (kept, off) ↦
+    | inr (retained, off) ↦
         let f = registered_at old in
         let b = f x.behind in
-        let own = in_entries hash index_of (backed_by f x) registry (m.same.there (backed_by f x) (backed_in f es x kept)) in
+        let own = in_entries hash index_of (backed_by f x) registry (m.same.there (backed_by f x) (backed_in f es x retained)) in
         let gone : has_name (map bound_by ops) b.name ≡ false = false_from_ne_true (has_name (map bound_by ops) b.name) (λ h.
         let n = named_of (map bound_by ops) b.name h in
         let r = record_of n.bound n.there in
         let on = index_there cs (entry_of_record (length old + r.0) r.1) x.index (c.each r.0 r.1 r.2) (r.4 ∙ ap index_of n.named ∙ ap (λ (e : Entry Registered). e.index) own.0) in
         cc) in
-        subst (λ (e : Entry Registered). IsIn e (entries_of hash index_of (after registry ops))) (own.0 ∙ old_entry x kept)
+        subst (λ (e : Entry Registered). IsIn e (entries_of hash index_of (after registry ops))) (own.0 ∙ old_entry x retained)
         (entry_in hash index_of b (after registry ops) (overlaid_old registry (map bound_by ops) b own.1 gone))
   ]
 
@@ -92,8 +92,8 @@ module _ (hash index_of : List ℕ → List ℕ) (old : List Record) (es : List 
             let r = record_of e.behind fresh in
             let entry = entry_of_record (length old + r.0) r.1 in
             (entry, overwritten_new es cs entry (c.each r.0 r.1 r.2), r.4 ∙ ap (λ (x : Entry Registered). x.index) own.0)
-        | inr (kept, gone) ↦
-            let was = subst (λ (x : Entry Registered). IsIn x (entries_of hash index_of registry)) own.0 (entry_in hash index_of e.behind registry kept) in
+        | inr (retained, gone) ↦
+            let was = subst (λ (x : Entry Registered). IsIn x (entries_of hash index_of registry)) own.0 (entry_in hash index_of e.behind registry retained) in
             let k = in_backed (registered_at old) es e (m.same.back e was) in
             let at = overwritten_index es cs k.0 k.1 in
             (at.0, at.1, at.2 ∙ ap (λ (x : Entry Registered). x.index) k.2)
@@ -113,7 +113,7 @@ module _ (hash index_of : List ℕ → List ℕ) (old : List Record) (es : List 
   Mirrors-after = record {
     stored = λ e is. elim (in_overwritten es cs e is) [
       | inl fresh ↦ stored_new e fresh
-      | inr kept ↦ let k = m.stored e kept.0 in (k.0, Extends-append old new e.behind k.0 k.1, k.2)
+      | inr retained ↦ let k = m.stored e retained.0 in (k.0, Extends-append old new e.behind k.0 k.1, k.2)
     ];
     indices = IsMap-overwritten es cs m.indices (increasing_map cs c.increasing);
     names = names_after;
@@ -148,13 +148,13 @@ unfolding new_nodes new_within
 none_counted = refl
 
 -- records whose indices are those of their names
-held_by : (index_of : List ℕ → List ℕ) (records : List Record) → ((n : ℕ) (r : Record) → slice_get records n ≡ Some r → r.index.0 ≡ index_of r.binding.name) → AreOf index_of (indices_in records)
-held_by index_of [] all = tt
-held_by index_of (r ∷ rs) all = (all 0 r refl, held_by index_of rs (λ n x at. all (suc n) x at))
+stored_by : (index_of : List ℕ → List ℕ) (records : List Record) → ((n : ℕ) (r : Record) → slice_get records n ≡ Some r → r.index.0 ≡ index_of r.binding.name) → AreOf index_of (indices_in records)
+stored_by index_of [] all = tt
+stored_by index_of (r ∷ rs) all = (all 0 r refl, stored_by index_of rs (λ n x at. all (suc n) x at))
 
-few_kept : (root : Option Root) → node_count (unchanged root) ≤ 1
-few_kept (Some root) = omega arith
-few_kept None = omega arith
+few_retained : (root : Option Root) → node_count (unchanged root) ≤ 1
+few_retained (Some root) = omega arith
+few_retained None = omega arith
 
 -- the part that `build` makes from the changes of a batch without an error, as the tree grows by them
 module _ (hash index_of : List ℕ → List ℕ) (nonce latest : List ℕ) (t : Table) (root : Option Root) (registry : Registry) (ops : List Operation)
@@ -203,12 +203,12 @@ module _ (hash index_of : List ℕ → List ℕ) (nonce latest : List ℕ) (t : 
 
   module _ (anew : Bool) (grows : IsGrowth t root anew changes growth) (under : anew ≡ false → latest ≡ nonce) (made : IsMade) where
     -- without a new nonce: by the changes, from the root
-    stands_kept : anew ≡ false → Stands (hashing hash nonce) t p [] changed
+    stands_retained : anew ≡ false → Stands (hashing hash nonce) t p [] changed
     unfolding changed old
-    stands_kept off =
-        let kept = grows.kept off in
-        let same : entries_of_changes growth.changes.items ≡ entries_of_changes changes = ap entries_of_changes kept.1 in
-        let there : IsOldMap (hashing hash nonce) t growth.root old.0 = rw (kept.0, sym (under off)) old.1 in
+    stands_retained off =
+        let retained = grows.retained off in
+        let same : entries_of_changes growth.changes.items ≡ entries_of_changes changes = ap entries_of_changes retained.1 in
+        let there : IsOldMap (hashing hash nonce) t growth.root old.0 = rw (retained.0, sym (under off)) old.1 in
         rw same at (made.stands old.0 there (rw same (AreIncreasing-in_order (entries_of_changes changes) own c.increasing)) (rw same (IsMap-apart changed changed_map)))
 
     -- with a new nonce: by the whole changed map, from nothing
@@ -233,26 +233,26 @@ module _ (hash index_of : List ℕ → List ℕ) (nonce latest : List ℕ) (t : 
     few_anew : anew ≡ true → (node_count p ≤ most_anew (after registry ops)) × KeepsNone p
     few_anew on =
         let many = many_anew on in
-        let one : length growth.changes.items ≡ 0 → node_count p ≤ 1 = λ none. rw (made.empty none) (few_kept growth.root) in
+        let one : length growth.changes.items ≡ 0 → node_count p ≤ 1 = λ none. rw (made.empty none) (few_retained growth.root) in
         let few = made.few in
         (grind arith, made.keeps (grows.none on))
 
     few_from_root : anew ≡ false → (node_count p ≤ 512 * length ops + 1) × (length ops ≡ 0 → p ≡ unchanged root)
     few_from_root off =
-        let kept = grows.kept off in
-        let many : length growth.changes.items ≡ length ops = ap length kept.1 ∙ as_many in
-        let one : length growth.changes.items ≡ 0 → node_count p ≤ 1 = λ none. rw (made.empty none) (few_kept growth.root) in
+        let retained = grows.retained off in
+        let many : length growth.changes.items ≡ length ops = ap length retained.1 ∙ as_many in
+        let one : length growth.changes.items ≡ 0 → node_count p ≤ 1 = λ none. rw (made.empty none) (few_retained growth.root) in
         let few = made.few in
-        (rw (← many) (grind arith), λ none. made.empty (many ∙ none) ∙ ap unchanged kept.0)
+        (rw (← many) (grind arith), λ none. made.empty (many ∙ none) ∙ ap unchanged retained.0)
 
     -- without a new nonce: the number of nodes follows from the indices of the old map and of the changes
-    count_kept : anew ≡ false → 0 < length ops → node_count p ≡ new_nodes 0 (index_entries index_of registry) (index_entries index_of (map bound_by ops))
+    count_retained : anew ≡ false → 0 < length ops → node_count p ≡ new_nodes 0 (index_entries index_of registry) (index_entries index_of (map bound_by ops))
     unfolding changed old
-    count_kept off some =
-        let kept = grows.kept off in
-        let is : entries_of_changes growth.changes.items ≡ entries_of_changes changes = ap entries_of_changes kept.1 in
-        let there : IsOldMap (hashing hash nonce) t growth.root old.0 = rw (kept.0, sym (under off)) old.1 in
-        let many : length growth.changes.items ≡ length ops = ap length kept.1 ∙ as_many in
+    count_retained off some =
+        let retained = grows.retained off in
+        let is : entries_of_changes growth.changes.items ≡ entries_of_changes changes = ap entries_of_changes retained.1 in
+        let there : IsOldMap (hashing hash nonce) t growth.root old.0 = rw (retained.0, sym (under off)) old.1 in
+        let many : length growth.changes.items ≡ length ops = ap length retained.1 ∙ as_many in
         made.many (omega (arith, many, some)) old.0 there (rw is (AreIncreasing-in_order (entries_of_changes changes) own c.increasing)) (rw is (IsMap-apart changed changed_map))
         ∙ ap (new_nodes 0 old.0) is
         ∙ count_same old.0 (index_entries index_of registry) (entries_of_changes changes) (index_entries index_of (map bound_by ops)) (mirrors_alike hash index_of t.records old.0 registry old.2)
@@ -287,7 +287,7 @@ module _ (hash index_of : List ℕ → List ℕ) (nonce latest : List ℕ) (t : 
     counts true on = count_anew on
     counts false off = (elim ops as (λ os. ops ≡ os → IsCounted false index_of root registry os p) [
       | [] ↦ λ is. (few_from_root off).1 (ap length is)
-      | x ∷ xs ↦ λ is. count_kept off (rw is (omega arith)) ∙ ap (λ os. new_nodes 0 (index_entries index_of registry) (index_entries index_of (map bound_by os))) is
+      | x ∷ xs ↦ λ is. count_retained off (rw is (omega arith)) ∙ ap (λ os. new_nodes 0 (index_entries index_of registry) (index_entries index_of (map bound_by os))) is
     ]) refl
 
     pub built : IsBuilt hash index_of nonce t root registry ops anew p new
@@ -295,10 +295,10 @@ module _ (hash index_of : List ℕ → List ℕ) (nonce latest : List ℕ) (t : 
       binds = s.binds;
       fits = made.fits;
       counted = counts anew refl;
-      held = held_by index_of new (λ n r at. (s.drafted n r at).indexed);
+      stored = stored_by index_of new (λ n r at. (s.drafted n r at).indexed);
       small = (elim anew as (λ b. anew ≡ b → IsSmall b root ops (after registry ops) p) [ true ↦ few_anew | false ↦ few_from_root ]) refl;
       placed = made.placed (t.records ++ new) (Extends-append t.records new) (grows.placed (t.records ++ new) (Extends-append t.records new) stored);
       entries = changed;
-      stands = (elim anew as (λ b. anew ≡ b → Stands (hashing hash nonce) t p [] changed) [ true ↦ stands_anew | false ↦ stands_kept ]) refl;
+      stands = (elim anew as (λ b. anew ≡ b → Stands (hashing hash nonce) t p [] changed) [ true ↦ stands_anew | false ↦ stands_retained ]) refl;
       mirrors = mirrored;
     }

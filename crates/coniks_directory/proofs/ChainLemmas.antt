@@ -93,14 +93,14 @@ module _ (hash index_of : List ℕ → List ℕ) (policy nonce : List ℕ) (verd
   record MayCome (version : ℕ) (under : List ℕ) : Type 0 where
     is_version : IsVersion version
     no_less : latest_version 1 history ≤ version
-    kept : version ≡ 1 → under ≡ latest_nonce nonce history
+    retained : version ≡ 1 → under ≡ latest_nonce nonce history
 
   may_come : IsUnder (latest_version 1 history) (latest_nonce nonce history) shown → MayCome shown.version shown.nonce
-  may_come (None, version, same) = record { is_version = subst IsVersion (sym version) known; no_less = omega (arith, version); kept = λ first. same }
+  may_come (None, version, same) = record { is_version = subst IsVersion (sym version) known; no_less = omega (arith, version); retained = λ first. same }
   may_come (Some new_nonce, version, _) = record {
     is_version = inr version;
     no_less = elim known [ inl one ↦ omega (arith, one, version) | inr two ↦ omega (arith, two, version) ];
-    kept = λ first. absurd (omega (arith, first, version));
+    retained = λ first. absurd (omega (arith, first, version));
   }
 
   pub follows_next : (before : Option AuditorState) → entry.body ≡ body_of hash index_of policy before shown → IsLast nonce history before
@@ -119,6 +119,6 @@ module _ (hash index_of : List ℕ → List ℕ) (policy nonce : List ℕ) (verd
         | Some b ↦ λ l epoch link.
             let no_less : b.version ≤ entry.body.version = omega (arith, least, version, l.version) in
             let after : b.t < entry.body.t = omega (arith, later, t, l.epoch) in
-            let kept = λ (first : entry.body.version ≡ 1). nonce-is ∙ may.kept (sym version ∙ first) ∙ l.under in
-            record { rows = (is_version, (no_less, (tt, (after, (epoch, (link, (kept, (signed, tt)))))))) }
+            let retained = λ (first : entry.body.version ≡ 1). nonce-is ∙ may.retained (sym version ∙ first) ∙ l.under in
+            record { rows = (is_version, (no_less, (tt, (after, (epoch, (link, (retained, (signed, tt)))))))) }
       ]) last t_prev previous

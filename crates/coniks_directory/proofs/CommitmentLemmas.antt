@@ -116,7 +116,7 @@ module _ (hash : List ℕ → List ℕ) where
       binds = map-map registered_of (committed_by hash) records ∙ s.binds;
       drafted = λ n r at. let k = committed_at records n r at in let d = s.drafted n k.0 k.1 in subst
           (IsPendingRecord index_of) k.2 (record { indexed = d.indexed; ranged = d.ranged; named = d.named; keyed = d.keyed });
-      kept = λ index n some. let k = s.kept index n some in (committed_by hash k.0, at_committed records n k.0 k.1, k.2);
+      retained = λ index n some. let k = s.retained index n some in (committed_by hash k.0, at_committed records n k.0 k.1, k.2);
       all = λ n r at. let k = committed_at records n r at in subst (λ (x : Record). number_at numbers x.index.0 ≡ Some n) k.2 (s.all n k.0 k.1);
       ordered = s.ordered;
       counted = s.counted ∙ sym (length-map records (committed_by hash));

@@ -1,7 +1,7 @@
 -- The holder of an index, and what follows for a name at that index.
 use Rattle.std.proofs.Common.{◌≡◌, ℕ, List, [], ◌∷◌, map, true, false, refl, sym, ap, subst, ◌∙◌, not, inl, inr, Option, Some, None, is_some, slice_get}
 use Rattle.coniks_tree.specs.Table.{Table}
-use Rattle.coniks_directory.proofs.Words.{Bor, Entry, Finds, HolderIs, IsFree, IsHeld, IsIn, Numbered, Record, RecordNo, Registered}
+use Rattle.coniks_directory.proofs.Words.{Bor, Entry, Finds, HolderIs, IsFree, IsBoundAt, IsIn, Numbered, Record, RecordNo, Registered}
 use Rattle.coniks_directory.proofs.Words.{Registry, ShowsRegistry, backed_by, bytes_eq, bytes_eq-Decides, clashes, entries_of, entry_of}
 use Rattle.coniks_directory.proofs.Words.{entry_of_record, false_from_ne_true, has_name, registered_at, registered_by, registered_of}
 use Rattle.coniks_proof.proofs.Lemmas.{clash_found, clash_made, entry_in, eq_same, in_entries, named_in, named_of, same_bool, same_entry}
@@ -25,7 +25,7 @@ module _ (hash index_of : List ℕ → List ℕ) (nonce : List ℕ) (t : Table)
       let k = in_backed (registered_at t.records) s.entries (entry_of hash index_of n.bound) (s.mirrors.same.back (entry_of hash index_of n.bound) (entry_in hash index_of n.bound registry n.there)) in
       finds k.0 k.1 (ap (λ (e : Entry Registered). e.index) k.2 ∙ ap index_of n.named ∙ at))
 
-  pub found_some : (i : List ℕ) (place : RecordNo) (r : Record) → Finds t.records i (Some place) s.entries → slice_get t.records place.0 ≡ Some r → IsHeld index_of registry i (registered_of r)
+  pub found_some : (i : List ℕ) (place : RecordNo) (r : Record) → Finds t.records i (Some place) s.entries → slice_get t.records place.0 ≡ Some r → IsBoundAt index_of registry i (registered_of r)
   found_some i place r finds at =
       let finds-at = finds.1 in
       let one : finds.0 ≡ r = cc in
@@ -52,22 +52,22 @@ pub clash_free : (index_of : List ℕ → List ℕ) (registry : Registry) (name 
 clash_free index_of registry name none = false_from_ne_true (clashes index_of registry name)
     (λ h. let c = clash_found index_of registry name h in let there = c.there in let gone = none c.other c.at in cc)
 
-pub clash_held : (index_of : List ℕ → List ℕ) (registry : Registry) (name : List ℕ) (b : Registered)
-    → IsHeld index_of registry (index_of name) b → clashes index_of registry name ≡ not (bytes_eq b.name name)
-clash_held index_of registry name b held = (elim (bytes_eq b.name name) as (λ v. bytes_eq b.name name ≡ v → clashes index_of registry name ≡ not v) [
+pub clash_stored : (index_of : List ℕ → List ℕ) (registry : Registry) (name : List ℕ) (b : Registered)
+    → IsBoundAt index_of registry (index_of name) b → clashes index_of registry name ≡ not (bytes_eq b.name name)
+clash_stored index_of registry name b stored = (elim (bytes_eq b.name name) as (λ v. bytes_eq b.name name ≡ v → clashes index_of registry name ≡ not v) [
   | true ↦ λ is. false_from_ne_true (clashes index_of registry name)
-      (λ h. let c = clash_found index_of registry name h in c.apart (held.only c.other c.at c.there ∙ (bytes_eq-Decides b.name name).0 is))
-  | false ↦ λ is. clash_made index_of registry name (record { other = b.name; at = held.at; there = held.has; apart = λ same. let on = eq_same b.name name same in cc })
+      (λ h. let c = clash_found index_of registry name h in c.apart (stored.only c.other c.at c.there ∙ (bytes_eq-Decides b.name name).0 is))
+  | false ↦ λ is. clash_made index_of registry name (record { other = b.name; at = stored.at; there = stored.has; apart = λ same. let on = eq_same b.name name same in cc })
 ]) refl
 
-pub named_held : (index_of : List ℕ → List ℕ) (registry : Registry) (name : List ℕ) (b : Registered) → IsHeld index_of registry (index_of name) b → has_name registry name ≡ bytes_eq b.name name
-named_held index_of registry name b held = same_bool (has_name registry name) (bytes_eq b.name name)
-    (λ h. eq_same b.name name (sym (held.only name refl h)))
-    (λ on. subst (λ n. has_name registry n ≡ true) ((bytes_eq-Decides b.name name).0 on) held.has)
+pub named_stored : (index_of : List ℕ → List ℕ) (registry : Registry) (name : List ℕ) (b : Registered) → IsBoundAt index_of registry (index_of name) b → has_name registry name ≡ bytes_eq b.name name
+named_stored index_of registry name b stored = same_bool (has_name registry name) (bytes_eq b.name name)
+    (λ h. eq_same b.name name (sym (stored.only name refl h)))
+    (λ on. subst (λ n. has_name registry n ≡ true) ((bytes_eq-Decides b.name name).0 on) stored.has)
 
 -- the holder of the index of a name that isn't registered is another name
 pub clash_some : (index_of : List ℕ → List ℕ) (registry : Registry) (name : List ℕ) (holder : Option (Bor Record)) → HolderIs index_of registry (index_of name) holder → has_name registry name ≡ false
     → clashes index_of registry name ≡ is_some holder
-clash_some index_of registry name None held gone = clash_free index_of registry name held
-clash_some index_of registry name (Some r) held gone =
-    clash_held index_of registry name (registered_of r.now) held ∙ ap not (sym (named_held index_of registry name (registered_of r.now) held) ∙ gone)
+clash_some index_of registry name None stored gone = clash_free index_of registry name stored
+clash_some index_of registry name (Some r) stored gone =
+    clash_stored index_of registry name (registered_of r.now) stored ∙ ap not (sym (named_stored index_of registry name (registered_of r.now) stored) ∙ gone)

@@ -29,14 +29,14 @@ holds-extended : (hash index_of : List ℕ → List ℕ) (nodes further : List N
     → HoldsEpoch hash index_of (table nodes records) e → HoldsEpoch hash index_of (table further (records ++ more)) e
 holds-extended hash index_of nodes further records more e grown longer h =
     let r = h.registry in
-    let kept = Extends-append records more in
+    let retained = Extends-append records more in
     record {
       known = let k = h.known in omega arith;
       counted = let c = h.counted in omega (arith, length-append records more);
       registry = record {
         entries = r.entries;
-        shows = Shows-extended (hashing hash e.nonce.0) (table nodes records) (table further (records ++ more)) grown kept e.root.0 [] r.entries r.shows;
-        mirrors = rw (registry_at-append records more e.count h.counted) (Mirrors-extended hash index_of records (records ++ more) r.entries _ kept r.mirrors);
+        shows = Shows-extended (hashing hash e.nonce.0) (table nodes records) (table further (records ++ more)) grown retained e.root.0 [] r.entries r.shows;
+        mirrors = rw (registry_at-append records more e.count h.counted) (Mirrors-extended hash index_of records (records ++ more) r.entries _ retained r.mirrors);
       };
     }
 
@@ -85,8 +85,8 @@ module _ (hash index_of : List ℕ → List ℕ) (s : State)
       map-append (shown_of (records_after s p)) s.epochs (epoch_after s p root t ∷ [])
       ∙ ap (λ (ss : List Shown). ss ++ shown_after s p t ∷ []) (shown-before s.records p.records.items s.epochs (λ k e at. (holds k e at).counted))
 
-  held_next : HoldsEpoch hash index_of (table nodes (records_after s p)) (epoch_after s p root t)
-  held_next = record {
+  stored_next : HoldsEpoch hash index_of (table nodes (records_after s p)) (epoch_after s p root t)
+  stored_next = record {
     known = known;
     counted = omega arith;
     registry = record { entries = u.entries; shows = shows u.entries u.stands; mirrors = u.mirrors };
@@ -94,9 +94,9 @@ module _ (hash index_of : List ℕ → List ℕ) (s : State)
 
   pub attached_next : Attached hash index_of s (installed s p nodes root t entry) p t entry
   attached_next = record {
-    held = λ k x at. elim (get-push s.epochs (epoch_after s p root t) k x at) [
+    stored = λ k x at. elim (get-push s.epochs (epoch_after s p root t) k x at) [
       | inl old ↦ holds-extended hash index_of s.nodes nodes s.records p.records.items x older longer (holds k x old)
-      | inr new ↦ subst (HoldsEpoch hash index_of (table nodes (records_after s p))) new.1 held_next
+      | inr new ↦ subst (HoldsEpoch hash index_of (table nodes (records_after s p))) new.1 stored_next
     ];
     last = at_end last_count (λ e. e.count) (λ e. refl) (λ x y es. refl) s.epochs (epoch_after s p root t);
     history = history-installed;
@@ -125,7 +125,7 @@ module _ (hash index_of : List ℕ → List ℕ) (s : State) (whole : Whole hash
   -- it satisfies the invariant of a directory
   whole_next : Whole hash index_of (installed s p nodes root t entry)
   whole_next = record {
-    held = a.held;
+    stored = a.stored;
     last = a.last;
     begun = λ none. absurd (let long = simp length-append at (ap length none) in omega arith);
     rising = rw (a.history, map-append (λ (x : Shown). x.t) (history_of s) (shown_after s p t ∷ []))
@@ -173,11 +173,11 @@ pub published_next : (hash : List ℕ → List ℕ) (before after : BoardEnd) (c
 published_next hash before after chain later entry head published put head_is later_is =
     ap (λ (e : BoardEnd). e.heads) put ∙ rw (published, head_is, later_is) (sym (map-append (head_at hash) chain (entry ∷ [])))
 
--- a directory in the same state, with the same hash, has kept what it had, if the signer's verdicts are those that it had
-pub kept_still : {H X S : Type 0} (digest : H → List ℕ → List ℕ) (verdict_of : S → List ℕ → List ℕ → Bool) (d later : View H X) (old new : S) (publisher : BoardEnd)
+-- a directory in the same state, with the same hash, has retained what it had, if the signer's verdicts are those that it had
+pub retained_still : {H X S : Type 0} (digest : H → List ℕ → List ℕ) (verdict_of : S → List ℕ → List ℕ → Bool) (d later : View H X) (old new : S) (publisher : BoardEnd)
     → later.state ≡ d.state → later.hash ≡ d.hash → ((bytes signature : List ℕ) → verdict_of new bytes signature ≡ verdict_of old bytes signature)
     → publisher.heads ≡ heads digest d → Keeps digest verdict_of d later old new publisher publisher
-kept_still {H} {X} {S} digest verdict_of d later old new publisher same_state same_hash verdicts published =
+retained_still {H} {X} {S} digest verdict_of d later old new publisher same_state same_hash verdicts published =
     let state = sym same_state in
     let hash = sym same_hash in
     record {
@@ -185,14 +185,14 @@ kept_still {H} {X} {S} digest verdict_of d later old new publisher same_state sa
       good = λ good. subst (λ (s : State). Continues (digest later.hash) (verdict_of new) s.before s.chain) state
           (continues_same_verdict (digest later.hash) (verdict_of old) (verdict_of new) verdicts d.state.before d.state.chain
           (subst (λ (h : H). Continues (digest h) (verdict_of old) d.state.before d.state.chain) hash good));
-      verdicts_kept = verdicts;
+      verdicts_retained = verdicts;
       heads = published ∙ ap (λ (h : H). heads_of (digest h) d.state.chain) hash ∙ ap (λ (s : State). heads_of (digest later.hash) s.chain) state;
       table = refl;
     }
 
--- what is held in the same state, with the same link, has the link of its last entry if that was so
-pub linked_still : (hash : List ℕ → List ℕ) (held later : DirectoryState) → state_of later ≡ state_of held → later.link ≡ held.link → IsLinked hash held → IsLinked hash later
-linked_still hash held later same link linked =
+-- what is stored in the same state, with the same link, has the link of its last entry if that was so
+pub linked_still : (hash : List ℕ → List ℕ) (stored later : DirectoryState) → state_of later ≡ state_of stored → later.link ≡ stored.link → IsLinked hash stored → IsLinked hash later
+linked_still hash stored later same link linked =
     ap (λ (d : Digest). d.0) link ∙ linked
     ∙ ap (λ (s : State). link_before (before_at hash s.before s.chain (length s.chain))) (sym same)
 

@@ -38,7 +38,7 @@ module _ (hash index_of : List ℕ → List ℕ) (s : State) (whole : Whole hash
         let body = whole.chain.bodies k (shown_of s.records e) entry shown there in
         let number = ap (λ (b : Body). b.t) body ∙ same in
         record {
-          holds = whole.held k e at;
+          holds = whole.stored k e at;
           shown = shown-found s.records s.epochs t ∙ ap (option_map (shown_of s.records)) (find_at (λ (f : Epoch). f.t) 0 t k s.epochs e rising_epochs at same);
           root = ap (λ (b : Body). b.root.0) body;
           nonce = ap (λ (b : Body). b.nonce.0) body;
@@ -93,4 +93,4 @@ module _ (hash index_of : List ℕ → List ℕ) (s : State) (t : ℕ) (e : Epoc
 -- no two names in an epoch's registry have the same index
 pub all_own : (hash index_of : List ℕ → List ℕ) (s : State) → Whole hash index_of s → AllHaveOwnIndices index_of (history_of s)
 all_own hash index_of s whole k shown there = let e = get-mapped (shown_of s.records) s.epochs k shown there in
-    subst (λ (x : Shown). HaveOwnIndices index_of x.registry) e.2 (own_of_map hash index_of (shown_of s.records e.0).registry (whole.held k e.0 e.1).registry.mirrors.names)
+    subst (λ (x : Shown). HaveOwnIndices index_of x.registry) e.2 (own_of_map hash index_of (shown_of s.records e.0).registry (whole.stored k e.0 e.1).registry.mirrors.names)

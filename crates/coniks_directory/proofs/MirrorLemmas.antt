@@ -8,22 +8,22 @@ use Rattle.coniks_proof.proofs.Lemmas.{end_of-same, node-backed, node-same, sibl
 
 -- the binding of a stored entry's record is unchanged
 pub registered_at-extended : (records more : List Record) (e : Numbered) → Extends records more → IsStored records e → registered_at more e.behind ≡ registered_at records e.behind
-registered_at-extended records more e kept s = ap registered_by (kept e.behind s.0 s.1 ∙ sym s.1)
+registered_at-extended records more e retained s = ap registered_by (retained e.behind s.0 s.1 ∙ sym s.1)
 
 backed-extended : (records more : List Record) (es : List Numbered) → Extends records more → ((e : Numbered) → IsIn e es → IsStored records e)
     → map (backed_by (registered_at more)) es ≡ map (backed_by (registered_at records)) es
-backed-extended records more [] kept s = refl
-backed-extended records more (e ∷ es) kept s =
-    rw (registered_at-extended records more e kept (s e (inl refl)), backed-extended records more es kept (λ x is. s x (inr is))) refl
+backed-extended records more [] retained s = refl
+backed-extended records more (e ∷ es) retained s =
+    rw (registered_at-extended records more e retained (s e (inl refl)), backed-extended records more es retained (λ x is. s x (inr is))) refl
 
 -- entries that mirror a registry also do so with more records
 pub Mirrors-extended : (hash index_of : List ℕ → List ℕ) (records more : List Record) (es : List Numbered) (registry : Registry) → Extends records more → Mirrors hash index_of records es registry
     → Mirrors hash index_of more es registry
-Mirrors-extended hash index_of records more es registry kept m = record {
-  stored = λ e is. let s = m.stored e is in (s.0, kept e.behind s.0 s.1, s.2);
+Mirrors-extended hash index_of records more es registry retained m = record {
+  stored = λ e is. let s = m.stored e is in (s.0, retained e.behind s.0 s.1, s.2);
   indices = m.indices;
   names = m.names;
-  same = subst (λ (xs : List (Entry Registered)). SameEntries xs (entries_of hash index_of registry)) (sym (backed-extended records more es kept m.stored)) m.same;
+  same = subst (λ (xs : List (Entry Registered)). SameEntries xs (entries_of hash index_of registry)) (sym (backed-extended records more es retained m.stored)) m.same;
   limits = m.limits;
 }
 

@@ -73,7 +73,7 @@ over : (es fs cs ds : List Numbered) → ((e : Numbered) → IsIn e es → (f : 
     → (e : Numbered) → IsIn e (overwritten es cs) → (f : Numbered) × IsIn f (overwritten fs ds) × (f.index ≡ e.index)
 over es fs cs ds old new e is = elim (in_overwritten es cs e is) [
   | inl fresh ↦ let k = new e fresh in (k.0, overwritten_new fs ds k.0 k.1, k.2)
-  | inr kept ↦ let k = old e kept.0 in let at = overwritten_index fs ds k.0 k.1 in (at.0, at.1, at.2 ∙ k.2)
+  | inr retained ↦ let k = old e retained.0 in let at = overwritten_index fs ds k.0 k.1 in (at.0, at.1, at.2 ∙ k.2)
 ]
 
 over_alike : (es fs cs ds : List Numbered) → AreAlike es fs → AreAlike cs ds → AreAlike (overwritten es cs) (overwritten fs ds)

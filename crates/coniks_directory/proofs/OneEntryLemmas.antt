@@ -16,7 +16,7 @@ epoch_known : (hash index_of : List ℕ → List ℕ) (s : State) → Whole hash
     → IsMap (entries_of hash index_of x.registry) × AreWithin x.registry
 epoch_known hash index_of s whole k x at =
     let e = get-mapped (shown_of s.records) s.epochs k x at in
-    let m = (whole.held k e.0 e.1).registry.mirrors in
+    let m = (whole.stored k e.0 e.1).registry.mirrors in
     subst (λ (z : Shown). IsMap (entries_of hash index_of z.registry) × AreWithin z.registry) e.2 (m.names, m.limits)
 
 -- a binding of one of two registries with the same entries is one of the other, and its name has one index

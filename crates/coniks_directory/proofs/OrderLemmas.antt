@@ -34,33 +34,33 @@ pub maps-push : {A B C : Type 0} (f : A → C) (g : B → C) (xs : List A) (ys :
 maps-push f g xs ys x y are is = map-append g ys (y ∷ []) ∙ ap (λ zs. zs ++ g y ∷ []) are ∙ ap (λ z. map f xs ++ z ∷ []) is ∙ sym (map-append f xs (x ∷ []))
 
 -- an index with the number of a record that has it
-abbrev IsKept : List Record → List ℕ × ℕ → Type 0
-IsKept records p = (r : Record) × (slice_get records p.1 ≡ Some r) × (r.index.0 ≡ p.0)
+abbrev IsRetained : List Record → List ℕ × ℕ → Type 0
+IsRetained records p = (r : Record) × (slice_get records p.1 ≡ Some r) × (r.index.0 ≡ p.0)
 
 module _ (index_of : List ℕ → List ℕ) (base : ℕ) (records : List Record) (drafted : (n : ℕ) (r : Record) → slice_get records n ≡ Some r → IsPendingRecord index_of r) where
-  after : (x : List ℕ) (ps : List (List ℕ × ℕ)) → IsIndex x → All (IsKept records) ps → AllByRecursion (λ y. slice_cmp nat_cmp x y ≡ Less) (keys_of ps)
+  after : (x : List ℕ) (ps : List (List ℕ × ℕ)) → IsIndex x → All (IsRetained records) ps → AllByRecursion (λ y. slice_cmp nat_cmp x y ≡ Less) (keys_of ps)
       → AllAfter x (map (entry_at base records) (values_of ps))
-  after x [] ix kept sorted = tt
-  after x (p ∷ ps) ix kept sorted =
-      let k = kept 0 p (omega arith) in
+  after x [] ix retained sorted = tt
+  after x (p ∷ ps) ix retained sorted =
+      let k = retained 0 p (omega arith) in
       let here = before x k.0.index.0 ix (drafted p.1 k.0 k.1).ranged (ap (slice_cmp nat_cmp x) k.2 ∙ sorted.0) in
-      (rw k.1 here, after x ps ix (λ i d below. kept (suc i) d (omega arith)) sorted.1)
+      (rw k.1 here, after x ps ix (λ i d below. retained (suc i) d (omega arith)) sorted.1)
 
-  increasing : (ps : List (List ℕ × ℕ)) → All (IsKept records) ps → IsStrictlySortedBy (slice_cmp nat_cmp) (keys_of ps) → AreIncreasing (map (entry_at base records) (values_of ps))
+  increasing : (ps : List (List ℕ × ℕ)) → All (IsRetained records) ps → IsStrictlySortedBy (slice_cmp nat_cmp) (keys_of ps) → AreIncreasing (map (entry_at base records) (values_of ps))
   unfolding IsStrictlySortedBy
-  increasing [] kept sorted = tt
-  increasing (p ∷ ps) kept sorted =
-      let k = kept 0 p (omega arith) in
-      let more : All (IsKept records) ps = λ i d below. kept (suc i) d (omega arith) in
+  increasing [] retained sorted = tt
+  increasing (p ∷ ps) retained sorted =
+      let k = retained 0 p (omega arith) in
+      let more : All (IsRetained records) ps = λ i d below. retained (suc i) d (omega arith) in
       let ranged = (drafted p.1 k.0 k.1).ranged in
       (rw k.1 ranged, rw k.1 (after k.0.index.0 ps ranged more (rw k.2 sorted.0)), increasing ps more sorted.1)
 
 -- an entry is that of a record
-only : (base : ℕ) (records : List Record) (ps : List (List ℕ × ℕ)) (e : Numbered) → All (IsKept records) ps → IsIn e (map (entry_at base records) (values_of ps))
+only : (base : ℕ) (records : List Record) (ps : List (List ℕ × ℕ)) (e : Numbered) → All (IsRetained records) ps → IsIn e (map (entry_at base records) (values_of ps))
     → (n : ℕ) × (r : Record) × (slice_get records n ≡ Some r) × (entry_of_record (base + n) r ≡ e)
-only base records [] e kept there = absurd there
-only base records (p ∷ ps) e kept (inl here) = let k = kept 0 p (omega arith) in (p.1, k.0, k.1, rw k.1 at here)
-only base records (p ∷ ps) e kept (inr later) = only base records ps e (λ i d below. kept (suc i) d (omega arith)) later
+only base records [] e retained there = absurd there
+only base records (p ∷ ps) e retained (inl here) = let k = retained 0 p (omega arith) in (p.1, k.0, k.1, rw k.1 at here)
+only base records (p ∷ ps) e retained (inr later) = only base records ps e (λ i d below. retained (suc i) d (omega arith)) later
 
 -- the entry of a number that a lookup finds
 each : (base : ℕ) (records : List Record) (ps : List (List ℕ × ℕ)) (index : List ℕ) (n : ℕ) → lookup (is_at (slice_cmp nat_cmp index)) ps ≡ Some n
@@ -74,17 +74,17 @@ each base records (p ∷ ps) index n some =
     ]) some
 
 module _ (hash index_of : List ℕ → List ℕ) (bound : List Registered) (records : List Record) (numbers : BTreeMap (List ℕ) ℕ) (s : ArePendingRecords hash index_of bound records numbers) where
-  all_kept : All (IsKept records) numbers.entries
-  all_kept k d below = s.kept _ _ (All-found nat_list_cmp_total numbers s.ordered k d below)
+  all_retained : All (IsRetained records) numbers.entries
+  all_retained k d below = s.retained _ _ (All-found nat_list_cmp_total numbers s.ordered k d below)
 
   -- each number is that of a record
   pub numbers_within : All (λ n. n < length records) (values numbers)
-  numbers_within = All-map (λ n. n < length records) (λ (p : List ℕ × ℕ). p.1) numbers.entries (λ k d below. let r = all_kept k d below in slice_get_within records _ r.0 r.1)
+  numbers_within = All-map (λ n. n < length records) (λ (p : List ℕ × ℕ). p.1) numbers.entries (λ k d below. let r = all_retained k d below in slice_get_within records _ r.0 r.1)
 
   pub changes : (base : ℕ) → AreChangesOf base records (map (entry_at base records) (values numbers))
   changes base = record {
-    increasing = increasing index_of base records s.drafted numbers.entries all_kept s.ordered;
+    increasing = increasing index_of base records s.drafted numbers.entries all_retained s.ordered;
     each = λ n r at. rw at at (each base records numbers.entries r.index.0 n (s.all n r at));
-    only = λ e there. only base records numbers.entries e all_kept there;
+    only = λ e there. only base records numbers.entries e all_retained there;
     counted = length-map (values numbers) (entry_at base records) ∙ length-map numbers.entries (λ (p : List ℕ × ℕ). p.1) ∙ s.counted;
   }

@@ -2,7 +2,7 @@
 use Rattle.std.proofs.Common.{◌≡◌, ◌≢◌, ◌≤◌, ◌⊎◌, ℕ, zero, suc, ◌+◌, ◌-◌, List, [], ◌∷◌, ◌++◌, length, map, take, arith, length-append, true, false, refl, sym, ap, subst, ◌∙◌, cond, inl, inr, Some, None, slice_get}
 use Rattle.std.proofs.lemmas.Bool.{cases_lt}
 use Rattle.std.proofs.lemmas.List.{take-map}
-use Rattle.coniks_directory.proofs.Words.{ArePendingRecords, BTreeMap, Entry, IsFree, IsHeld, IsIn, IsIndex, IsMap, IsNew, IsPendingRecord, IsOrdered, IsStrictlySortedBy, Record, Registered}
+use Rattle.coniks_directory.proofs.Words.{ArePendingRecords, BTreeMap, Entry, IsFree, IsBoundAt, IsIn, IsIndex, IsMap, IsNew, IsPendingRecord, IsOrdered, IsStrictlySortedBy, Record, Registered}
 use Rattle.coniks_directory.proofs.Words.{btree_map_len, bytes_eq, bytes_eq-Decides, false_from_ne_true, has_name, is_eq, is_eq-slice_cmp}
 use Rattle.coniks_directory.proofs.Words.{entries_of, entry_of, is_at, keys_of, length-map, lookup, map-append, nat_cmp, number_at, registered_of, slice_cmp, slice_get_within, take-append-le, take_all}
 use Rattle.coniks_tree.proofs.Lemmas.{Extends-append, get-last, get-push}
@@ -60,9 +60,9 @@ module _ (hash index_of : List ℕ → List ℕ) (bound : List Registered) (reco
       let some : number_at numbers i ≡ Some k.0 = subst (λ x. number_at numbers x ≡ Some k.0) index-is (s.all k.0 k.1 k.2) in
       cc)
 
-  pub drafts_held : (i : List ℕ) (n : ℕ) (r : Record) → number_at numbers i ≡ Some n → slice_get records n ≡ Some r → IsHeld index_of bound i (registered_of r)
-  drafts_held i n r some at =
-      let k = s.kept i n some in
+  pub drafts_stored : (i : List ℕ) (n : ℕ) (r : Record) → number_at numbers i ≡ Some n → slice_get records n ≡ Some r → IsBoundAt index_of bound i (registered_of r)
+  drafts_stored i n r some at =
+      let k = s.retained i n some in
       let k-at = k.1 in
       let same : k.0 ≡ r = cc in
       let index-is : r.index.0 ≡ i = subst (λ (x : Record). x.index.0 ≡ i) same k.2 in
@@ -84,7 +84,7 @@ module _ (hash index_of : List ℕ → List ℕ) (bound : List Registered) (reco
   free_none i free = (elim (number_at numbers i) as (λ o. number_at numbers i ≡ o → number_at numbers i ≡ None) [
     | None ↦ λ is. is
     | Some n ↦ λ is.
-        let k = s.kept i n is in
+        let k = s.retained i n is in
         let gone = free k.0.binding.name (sym (s.drafted n k.0 k.1).indexed ∙ k.2) in
         let has = has_record n k.0 k.1 in
         absurd (let never = sym has ∙ gone in cc)
@@ -102,14 +102,14 @@ module _ (hash index_of : List ℕ → List ℕ) (bound : List Registered) (reco
       record {
         binds = map-append registered_of records (r ∷ []) ∙ ap (λ (bs : List Registered). bs ++ registered_of r ∷ []) s.binds;
         drafted = λ n x at. elim (get-push records r n x at) [ inl old ↦ s.drafted n x old | inr new ↦ subst (IsPendingRecord index_of) new.1 drafted ];
-        kept = λ i n some. (elim (bytes_eq r.index.0 i) as (λ v. bytes_eq r.index.0 i ≡ v → (x : Record) × (slice_get (records ++ r ∷ []) n ≡ Some x) × (x.index.0 ≡ i)) [
+        retained = λ i n some. (elim (bytes_eq r.index.0 i) as (λ v. bytes_eq r.index.0 i ≡ v → (x : Record) × (slice_get (records ++ r ∷ []) n ≡ Some x) × (x.index.0 ≡ i)) [
           | true ↦ λ on.
               let same : r.index.0 ≡ i = (bytes_eq-Decides r.index.0 i).0 on in
               let number : length records ≡ n = (let there = rw same at here in cc) in
               (r, rw (← number) (get-last records r), same)
           | false ↦ λ off.
               let old : number_at numbers i ≡ Some n = sym (other i (λ same. let on = eq_same r.index.0 i same in cc)) ∙ some in
-              let k = s.kept i n old in
+              let k = s.retained i n old in
               (k.0, Extends-append records (r ∷ []) n k.0 k.1, k.2)
         ]) refl;
         all = λ n x at. elim (get-push records r n x at) [
@@ -131,7 +131,7 @@ same_pending hash index_of bound records records' numbers numbers' same entries 
     (record {
       binds = s.binds;
       drafted = s.drafted;
-      kept = λ i n some. s.kept i n (sym (at i) ∙ some);
+      retained = λ i n some. s.retained i n (sym (at i) ∙ some);
       all = λ n r there. at r.index.0 ∙ s.all n r there;
       ordered = subst (λ (es : List (List ℕ × ℕ)). IsStrictlySortedBy (slice_cmp nat_cmp) (keys_of es)) (sym entries) s.ordered;
       counted = ap length entries ∙ s.counted;
@@ -146,18 +146,18 @@ pub drafts_before : (hash index_of : List ℕ → List ℕ) (bound : List Regist
 drafts_before hash index_of bound all records r numbers numbers' is updates ordered fewer given =
     let s : ArePendingRecords hash index_of bound (records ++ r ∷ []) numbers = subst (λ (rs : List Record). ArePendingRecords hash index_of bound rs numbers) is given in
     let last : number_at numbers r.index.0 ≡ Some (length records) = s.all (length records) r (get-last records r) in
-    let kept_at : (i : List ℕ) → r.index.0 ≢ i → number_at numbers' i ≡ number_at numbers i =
+    let retained_at : (i : List ℕ) → r.index.0 ≢ i → number_at numbers' i ≡ number_at numbers i =
     λ i apart. updates i ∙ rw (is_eq-slice_cmp r.index.0 i, eq_apart r.index.0 i apart) refl in
     record {
       binds = refl;
       drafted = λ n x at. s.drafted n x (Extends-append records (r ∷ []) n x at);
-      kept = λ i n some. (elim (bytes_eq r.index.0 i) as (λ v. bytes_eq r.index.0 i ≡ v → (x : Record) × (slice_get records n ≡ Some x) × (x.index.0 ≡ i)) [
+      retained = λ i n some. (elim (bytes_eq r.index.0 i) as (λ v. bytes_eq r.index.0 i ≡ v → (x : Record) × (slice_get records n ≡ Some x) × (x.index.0 ≡ i)) [
         | true ↦ λ on.
             let gone : number_at numbers' i ≡ None = updates i ∙ rw (is_eq-slice_cmp r.index.0 i, on) refl in
             absurd (let never = sym gone ∙ some in cc)
         | false ↦ λ off.
             let apart : r.index.0 ≢ i = λ same. let on = eq_same r.index.0 i same in cc in
-            let k = s.kept i n (sym (kept_at i apart) ∙ some) in
+            let k = s.retained i n (sym (retained_at i apart) ∙ some) in
             (elim (get-push records r n k.0 k.1) [
               | inl old ↦ (k.0, old, k.2)
               | inr new ↦ absurd (apart (ap (λ (y : Record). y.index.0) new.1 ∙ k.2))
@@ -166,7 +166,7 @@ drafts_before hash index_of bound all records r numbers numbers' is updates orde
       all = λ n x at.
           let there = s.all n x (Extends-append records (r ∷ []) n x at) in
           let within = slice_get_within records n x at in
-          kept_at x.index.0 (λ same. let one : number_at numbers x.index.0 ≡ Some (length records) = subst (λ j. number_at numbers j ≡ Some (length records)) same last in
+          retained_at x.index.0 (λ same. let one : number_at numbers x.index.0 ≡ Some (length records) = subst (λ j. number_at numbers j ≡ Some (length records)) same last in
           let number : n ≡ length records = cc in omega arith) ∙ there;
       ordered = ordered;
       counted = let long = s.counted in let less = fewer last in omega (arith, length-append records (r ∷ []));
@@ -194,6 +194,6 @@ front_pending hash index_of bound more all records count numbers binds long is s
 pub rolled_back : (hash index_of : List ℕ → List ℕ) (bound more : List Registered) (old all records : List Record) (numbers later last : BTreeMap (List ℕ) ℕ) (count : ℕ)
     → ArePendingRecords hash index_of bound old numbers → ArePendingRecords hash index_of (bound ++ more) all later → count ≡ length old → records ≡ take count all
     → ArePendingRecords hash index_of (map registered_of records) records last → ArePendingRecords hash index_of bound records last
-rolled_back hash index_of bound more old all records numbers later last count was s many is kept =
+rolled_back hash index_of bound more old all records numbers later last count was s many is retained =
     let long : length bound ≡ count = sym (ap length was.binds) ∙ length-map old registered_of ∙ sym many in
-    front_pending hash index_of bound more all records count last s.binds long is kept
+    front_pending hash index_of bound more all records count last s.binds long is retained

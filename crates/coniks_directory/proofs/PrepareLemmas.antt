@@ -24,7 +24,7 @@ module _ (hash index_of : List ℕ → List ℕ) (s : State) where
   module _ (whole : Whole hash index_of s) where
     pub latest_some : (e : Epoch) → slice_get s.epochs (length s.epochs - 1) ≡ Some e → IsLatestRoot hash index_of s (Some e.root)
     latest_some e at =
-        let h = whole.held (length s.epochs - 1) e at in
+        let h = whole.stored (length s.epochs - 1) e at in
         record {
           known = h.known;
           shows = λ nonce under. rw (under, nonce-last s e at, latest-last s e at) h.registry;
@@ -81,16 +81,16 @@ module _ (hash index_of : List ℕ → List ℕ) (s : State) where
             rotates = rotates;
             registry = registry;
             binds = b.binds;
-            held = b.held;
+            stored = b.stored;
             nodes = count new_nonce anew same b.counted;
             few = adds new_nonce anew same b.small;
           }
 
 -- an update without a new nonce is under the latest nonce
-pub latest_kept : (new_nonce : Option Nonce) (anew : Bool) (nonce latest : List ℕ) → anew ≡ is_some new_nonce
+pub latest_retained : (new_nonce : Option Nonce) (anew : Bool) (nonce latest : List ℕ) → anew ≡ is_some new_nonce
     → nonce ≡ nonce_after (option_map (λ (n : Nonce). n.0) new_nonce) latest → anew ≡ false → latest ≡ nonce
-latest_kept None anew nonce latest same is off = sym is
-latest_kept (Some n) anew nonce latest same is off = absurd (let never = sym same ∙ off in cc)
+latest_retained None anew nonce latest same is off = sym is
+latest_retained (Some n) anew nonce latest same is off = absurd (let never = sym same ∙ off in cc)
 
 pub is_some-map : {S T : Type 0} (f : S → T) (x : Option S) → is_some (option_map f x) ≡ is_some x
 is_some-map f None = refl

@@ -12,7 +12,7 @@ use Rattle.coniks_proof.proofs.Lemmas.{named_in}
 use Rattle.coniks_directory.proofs.AgreementLemmas.{entries_agree, first_agree, has_either, has_old}
 use Rattle.coniks_directory.proofs.PendingLemmas.{by_records, front, record_in}
 use Rattle.coniks_directory.proofs.RestoreLemmas.{added_faultless, added_ops, bound_registrations}
-use Rattle.coniks_directory.proofs.SuppliedBatchLemmas.{has_indices, held_is, held_take, kept_agree, put_of}
+use Rattle.coniks_directory.proofs.SuppliedBatchLemmas.{has_indices, stored_is, stored_take, retained_agree, put_of}
 
 -- bound names keep their indices
 pub bound_agree : (index_of : List ℕ → List ℕ) (bound : List Registered) (batch : OwnedBindings) → AgreeOn index_of (binding_index index_of bound batch) bound
@@ -31,7 +31,7 @@ pending_agree hash index_of also bound records numbers agree s = record {
       let has : has_name bound r.binding.name ≡ true = subst (λ (bs : List Registered). has_name bs r.binding.name ≡ true) s.binds
       (named_in (registered_of r) (map registered_of records) (record_in records n r at)) in
       record { indexed = d.indexed ∙ agree r.binding.name has; ranged = d.ranged; named = d.named; keyed = d.keyed };
-  kept = s.kept;
+  retained = s.retained;
   all = s.all;
   ordered = s.ordered;
   counted = s.counted;
@@ -55,14 +55,14 @@ restoring_agree hash index_of also entry s records numbers agree r =
 -- ---- the indices of records
 
 -- records have the function's indices
-held_all : (index_of : List ℕ → List ℕ) (records : List Record) → ((n : ℕ) (r : Record) → slice_get records n ≡ Some r → r.index.0 ≡ index_of r.binding.name) → AreOf index_of (indices_in records)
-held_all index_of [] each = tt
-held_all index_of (r ∷ rs) each = (each 0 r refl, held_all index_of rs (λ n x at. each (suc n) x at))
+stored_all : (index_of : List ℕ → List ℕ) (records : List Record) → ((n : ℕ) (r : Record) → slice_get records n ≡ Some r → r.index.0 ≡ index_of r.binding.name) → AreOf index_of (indices_in records)
+stored_all index_of [] each = tt
+stored_all index_of (r ∷ rs) each = (each 0 r refl, stored_all index_of rs (λ n x at. each (suc n) x at))
 
-held_drop : (index_of : List ℕ → List ℕ) (records : List Record) (n : ℕ) → AreOf index_of (indices_in records) → AreOf index_of (indices_in (drop n records))
-held_drop index_of records zero held = held
-held_drop index_of [] (suc n) held = tt
-held_drop index_of (r ∷ rs) (suc n) held = held_drop index_of rs n held.1
+stored_drop : (index_of : List ℕ → List ℕ) (records : List Record) (n : ℕ) → AreOf index_of (indices_in records) → AreOf index_of (indices_in (drop n records))
+stored_drop index_of records zero stored = stored
+stored_drop index_of [] (suc n) stored = tt
+stored_drop index_of (r ∷ rs) (suc n) stored = stored_drop index_of rs n stored.1
 
 -- ---- bindings that come with their indices, after those of records
 
@@ -87,8 +87,8 @@ module _ (hash : List ℕ → List ℕ) (source : List Supplied) (batch : OwnedB
     long_enough =
         omega (arith, length-map old registered_of, length-map new registered_of, ap length p.binds, length-append bound (map bound_by ops))
 
-    held_rest : AreOf given (indices_in rest)
-    held_rest = held_drop given new (length old) (held_all given new (λ n x at. (p.drafted n x at).indexed))
+    stored_rest : AreOf given (indices_in rest)
+    stored_rest = stored_drop given new (length old) (stored_all given new (λ n x at. (p.drafted n x at).indexed))
 
     rest_binds : map registered_of rest ≡ map bound_by ops
     rest_binds =
@@ -96,7 +96,7 @@ module _ (hash : List ℕ → List ℕ) (source : List Supplied) (batch : OwnedB
         ∙ ap (λ n. drop n (bound ++ map bound_by ops)) (sym (length-map old registered_of)) ∙ drop-append_seam bound (map bound_by ops)
 
     pub rest_indices : indices_in rest ≡ indices_by given ops
-    rest_indices = held_is given rest ops rest_binds held_rest
+    rest_indices = stored_is given rest ops rest_binds stored_rest
 
     pub first_indices : (n : ℕ) → indices_in (take n rest) ≡ take n (indices_by given ops)
     first_indices n = sym (take-map (λ (x : Record). (x.binding.name, x.index.0)) n rest) ∙ ap (take n) rest_indices
@@ -109,7 +109,7 @@ module _ (hash : List ℕ → List ℕ) (source : List Supplied) (batch : OwnedB
         (λ before. inl (bound_agree (supplied_index source) bound batch name before))
         (λ later. inr (has_indices rest name ∙ ap (λ (bs : List Registered). has_name bs name) rest_binds ∙ later))
         (subst (λ (bs : List Registered). has_name bs name ≡ true) p.binds has) in
-        sym (put_of given (indices_in rest) source name held_rest known)
+        sym (put_of given (indices_in rest) source name stored_rest known)
 
     pub restoring_more : fault_from given [] bound 0 ops ≡ None
         → IsRestoring hash (supplied_index (put_indices source (indices_in rest))) entry s new numbers'
@@ -134,8 +134,8 @@ module _ (hash : List ℕ → List ℕ) (source : List Supplied) (batch : OwnedB
           left_binds = ap (map registered_of) is ∙ sym (take-map registered_of (length old) new)
               ∙ sym (front (map registered_of new) bound (map bound_by ops) (length old) p.binds (length-map old registered_of))
 
-      pub some_kept : AgreeOn (supplied_index source) (supplied_index (put_indices source (indices_in (take n rest)))) bound
-      some_kept = kept_agree given source (indices_in (take n rest)) bound (bound_agree (supplied_index source) bound batch) (held_take given rest n held_rest)
+      pub some_retained : AgreeOn (supplied_index source) (supplied_index (put_indices source (indices_in (take n rest)))) bound
+      some_retained = retained_agree given source (indices_in (take n rest)) bound (bound_agree (supplied_index source) bound batch) (stored_take given rest n stored_rest)
 
       pub restoring_less : IsRestoring hash (supplied_index (put_indices source (indices_in (take n rest)))) entry s left numbers''
       restoring_less =
@@ -143,7 +143,7 @@ module _ (hash : List ℕ → List ℕ) (source : List Supplied) (batch : OwnedB
           let binds : map registered_of left ≡ bound = sym (bound_registrations (map registered_of left)) ∙ ap (map bound_by) left_ops ∙ bound_registrations bound in
           let agree : AgreeOn given some (map registered_of left) = λ name has.
           let before : has_name bound name ≡ true = subst (λ (bs : List Registered). has_name bs name ≡ true) binds has in
-          sym (bound_agree (supplied_index source) bound batch name before) ∙ some_kept name before in
+          sym (bound_agree (supplied_index source) bound batch name before) ∙ some_retained name before in
           restoring_agree hash given some entry s left numbers'' agree (record {
             formed = r.formed;
             opened = r.opened;

@@ -11,7 +11,7 @@ use Rattle.coniks_tree.specs.Parts.{node_count}
 use Rattle.coniks_directory.specs.Built.{IsCounted}
 use Rattle.coniks_directory.specs.Installed.{Attached, IsFirst}
 use Rattle.coniks_directory.specs.Nodes.{epoch_nodes}
-use Rattle.coniks_directory.specs.Restored.{RestoringView, Restores, registration, registrations, restored_epoch, said_before}
+use Rattle.coniks_directory.specs.Restored.{RestoringView, Restores, registration, registrations, restored_epoch, stated_before}
 use Rattle.coniks_directory.specs.State.{opened}
 use Rattle.coniks_proof.proofs.Lemmas.{placed_none}
 use Rattle.coniks_directory.proofs.MirrorLemmas.{mirrored_root}
@@ -24,7 +24,7 @@ use Rattle.coniks_directory.proofs.Words.{index_clash, kind_fault, map-append, n
 -- the state of `open` is a directory's
 pub opened_whole : (hash index_of : List ℕ → List ℕ) (nonce policy : List ℕ) → Whole hash index_of (opened nonce policy)
 opened_whole hash index_of nonce policy = record {
-  held = λ k e at. absurd (let never = at in cc);
+  stored = λ k e at. absurd (let never = at in cc);
   last = refl;
   begun = λ none. refl;
   rising = tt;
@@ -53,7 +53,7 @@ module _ (hash index_of : List ℕ → List ℕ) (entry : Entry) (ops : List Ope
   start = opened entry.body.nonce.0 entry.body.policy
 
   abbrev pub begun : State
-  begun = record start { before = Some (said_before entry) }
+  begun = record start { before = Some (stated_before entry) }
 
   pub no_epochs : (k : ℕ) (e : Epoch) → slice_get begun.epochs k ≡ Some e → HoldsEpoch hash index_of (table begun.nodes begun.records) e
   no_epochs k e at = absurd (let never = at in cc)
@@ -78,16 +78,16 @@ module _ (hash index_of : List ℕ → List ℕ) (entry : Entry) (ops : List Ope
       let history : history_of later ≡ restored_epoch entry ops ∷ [] = a.history ∙ ap (λ (x : Shown). x ∷ []) shown-is in
       let chain : later.chain ≡ entry ∷ [] = a.chain in
       let root : entry.body.root.0 ≡ root_of hash index_of entry.body.nonce.0 (after [] ops) = rw (f.nonce, f.registry) at f.root in
-      let body : entry.body ≡ body_of hash index_of entry.body.policy (Some (said_before entry)) (restored_epoch entry ops) =
+      let body : entry.body ≡ body_of hash index_of entry.body.policy (Some (stated_before entry)) (restored_epoch entry ops) =
       ap (λ (r : List ℕ). record entry.body { root = record { 0 = r } }) root in (
         record {
-          held = a.held;
+          stored = a.stored;
           last = a.last;
           begun = λ none. absurd (let never = sym a.chain ∙ none in cc);
           rising = rw (history, a.grows.before) (f.later, tt);
           under = rw (history, a.grows.nonce) ((u.new_nonce, sym f.version ∙ u.rotates.version, sym f.nonce ∙ u.rotates.nonce), tt);
           chain = rw (history, chain, a.grows.policy, a.grows.before)
-              (record { long = refl; bodies = one_chain hash index_of entry.body.policy (Some (said_before entry)) (restored_epoch entry ops) entry body });
+              (record { long = refl; bodies = one_chain hash index_of entry.body.policy (Some (stated_before entry)) (restored_epoch entry ops) entry body });
         },
         record {
           nonce = a.grows.nonce;
@@ -240,9 +240,9 @@ one_good hash verdict before entry follows zero e at = subst (Follows verdict be
 one_good hash verdict before entry follows (suc k) e at = absurd (let never = at in cc)
 
 pub good_first : (hash : List ℕ → List ℕ) (verdict : List ℕ → List ℕ → Bool) (entry : Entry) → IsWellFormed entry.body
-    → verdict (body_bytes entry.body) entry.signature.0 ≡ true → Continues hash verdict (Some (said_before entry)) (entry ∷ [])
+    → verdict (body_bytes entry.body) entry.signature.0 ≡ true → Continues hash verdict (Some (stated_before entry)) (entry ∷ [])
 good_first hash verdict entry may signed =
-    one_good hash verdict (Some (said_before entry)) entry
+    one_good hash verdict (Some (stated_before entry)) entry
     (record { rows = (may.version, (omega arith, (tt, (may.later, (refl, (refl, ((λ first. refl), (signed, tt)))))))) })
 
 -- the first entry of a chain is a good chain by itself
@@ -260,7 +260,7 @@ before_at-next : (hash : List ℕ → List ℕ) (start : Option AuditorState) (e
 before_at-next hash from e es zero = refl
 before_at-next hash from e es (suc k) = refl
 
-module _ (hash : List ℕ → List ℕ) (verdict : List ℕ → List ℕ → Bool) (e : Entry) (more : List Entry) (good : Continues hash verdict (Some (said_before e)) (e ∷ more)) where
+module _ (hash : List ℕ → List ℕ) (verdict : List ℕ → List ℕ → Bool) (e : Entry) (more : List Entry) (good : Continues hash verdict (Some (stated_before e)) (e ∷ more)) where
   -- entries and those of a restored directory, whose first entry is their last, are a chain
   pub joined : (start : Option AuditorState) (earlier : List Entry) → Continues hash verdict start (earlier ++ e ∷ []) → Continues hash verdict start (earlier ++ e ∷ more)
   joined from [] first zero f at = first 0 f at
@@ -272,5 +272,5 @@ module _ (hash : List ℕ → List ℕ) (verdict : List ℕ → List ℕ → Boo
       subst (λ b. Follows verdict b f) (sym (before_at-next hash from x (earlier ++ e ∷ more) k)) (joined (Some (auditor_after hash x)) earlier rest k f at)
 
 pub good_joined : (hash : List ℕ → List ℕ) (verdict : List ℕ → List ℕ → Bool) (earlier more : List Entry) (e : Entry)
-    → Continues hash verdict None (earlier ++ e ∷ []) → Continues hash verdict (Some (said_before e)) (e ∷ more) → Continues hash verdict None (earlier ++ e ∷ more)
+    → Continues hash verdict None (earlier ++ e ∷ []) → Continues hash verdict (Some (stated_before e)) (e ∷ more) → Continues hash verdict None (earlier ++ e ∷ more)
 good_joined hash verdict earlier more e first good = joined hash verdict e more good None earlier first

@@ -153,9 +153,9 @@ module _ (registry : Registry) where
   }
 
   -- if a name occurs twice, its first index counts
-  pub fresh_kept : (fresh named : List Supplied) (n i : List ℕ) → has_name registry n ≡ false
+  pub fresh_retained : (fresh named : List Supplied) (n i : List ℕ) → has_name registry n ≡ false
       → is_supplied fresh n ≡ true → IsFresh registry fresh named → IsFresh registry fresh (named ++ (n, i) ∷ [])
-  fresh_kept fresh named n i gone there f =
+  fresh_retained fresh named n i gone there f =
       let among : is_supplied named n ≡ true = sym (f.names n gone) ∙ there in
       record {
         none = f.none;
@@ -392,14 +392,14 @@ module _ (index_of : List ℕ → List ℕ) (registry : Registry) (ops : List Op
   judged_fault (batch_fault.At position fault) within other f = (within, faults None other ∙ ap (λ g. earliest g None) f)
 
 -- the error that reports the earliest one
-pub told_earliest : (index : List ℕ → List ℕ) (registry : Registry) (ops : List Operation) (place : ℕ) (fault : SuppliedBatchFault) (at : ℕ × SuppliedFault) → supplied_fault_is fault ≡ Some at
+pub reported_earliest : (index : List ℕ → List ℕ) (registry : Registry) (ops : List Operation) (place : ℕ) (fault : SuppliedBatchFault) (at : ℕ × SuppliedFault) → supplied_fault_is fault ≡ Some at
     → earliest (first_fault index registry ops) (Some place) ≡ Some at → IsEarliest index registry ops place fault
-told_earliest index registry ops place (InBatch batch_fault.Workers) at told first = absurd (let never = told in cc)
-told_earliest index registry ops place (InBatch batch_fault.Depth) at told first = absurd (let never = told in cc)
-told_earliest index registry ops place (InBatch batch_fault.BatchTooLong) at told first = absurd (let never = told in cc)
-told_earliest index registry ops place (InBatch batch_fault.OutOfMemory) at told first = absurd (let never = told in cc)
-told_earliest index registry ops place (InBatch (batch_fault.At position fault)) at told first = first ∙ sym told
-told_earliest index registry ops place (OtherIndex position) at told first = first ∙ sym told
+reported_earliest index registry ops place (InBatch batch_fault.Workers) at reported first = absurd (let never = reported in cc)
+reported_earliest index registry ops place (InBatch batch_fault.Depth) at reported first = absurd (let never = reported in cc)
+reported_earliest index registry ops place (InBatch batch_fault.BatchTooLong) at reported first = absurd (let never = reported in cc)
+reported_earliest index registry ops place (InBatch batch_fault.OutOfMemory) at reported first = absurd (let never = reported in cc)
+reported_earliest index registry ops place (InBatch (batch_fault.At position fault)) at reported first = first ∙ sym reported
+reported_earliest index registry ops place (OtherIndex position) at reported first = first ∙ sym reported
 
 -- an error that isn't an operation's is `OutOfMemory`
 pub other_judged : (index : List ℕ → List ℕ) (registry : Registry) (ops : List Operation) (place : ℕ) (fault : BatchFault) → ((position : ℕ) (f : OpFault) → fault ≡ batch_fault.At position f → ⊥)
@@ -413,22 +413,22 @@ other_judged index registry ops place (batch_fault.At position fault) off f = ab
 -- ---- what an update holds
 
 -- the indices of records are those of the operations
-pub held_is : (index_of : List ℕ → List ℕ) (records : List Record) (ops : List Operation)
+pub stored_is : (index_of : List ℕ → List ℕ) (records : List Record) (ops : List Operation)
     → map registered_of records ≡ map bound_by ops → AreOf index_of (indices_in records) → indices_in records ≡ indices_by index_of ops
-held_is index_of [] [] binds held = refl
-held_is index_of [] (op ∷ ops) binds held = absurd (let never = binds in cc)
-held_is index_of (r ∷ rs) [] binds held = absurd (let never = binds in cc)
-held_is index_of (r ∷ rs) (op ∷ ops) binds held =
+stored_is index_of [] [] binds stored = refl
+stored_is index_of [] (op ∷ ops) binds stored = absurd (let never = binds in cc)
+stored_is index_of (r ∷ rs) [] binds stored = absurd (let never = binds in cc)
+stored_is index_of (r ∷ rs) (op ∷ ops) binds stored =
     let first : registered_of r ≡ bound_by op = cc in
     let rest : map registered_of rs ≡ map bound_by ops = cc in
     let name : r.binding.name ≡ op.name = ap (λ (b : Registered). b.name) first in
-    let index : r.index.0 ≡ index_of op.name = held.0 ∙ ap index_of name in
-    rw (name, index, held_is index_of rs ops rest held.1) refl
+    let index : r.index.0 ≡ index_of op.name = stored.0 ∙ ap index_of name in
+    rw (name, index, stored_is index_of rs ops rest stored.1) refl
 
 -- an update with its indices stays one while epochs are installed, if the registered names keep their indices
 pub supplied_stays : (hash index_of also index : List ℕ → List ℕ) (s later : State) (p : Prepared) → Grows s later → AgreeOn index_of also (latest_registry (history_of s))
     → IsSuppliedUpdate hash index_of s p index → IsSuppliedUpdate hash also later p index
-supplied_stays hash index_of also index s later p grows kept u = record {
+supplied_stays hash index_of also index s later p grows retained u = record {
   agree = λ base name has.
       let earlier = u.update.earlier in
       let since = Grows-trans earlier s later u.update.grows grows in
@@ -436,9 +436,9 @@ supplied_stays hash index_of also index s later p grows kept u = record {
       let before : base_of p ≡ length s.epochs = omega (arith, base, ap length grows.epochs, long, ap length u.update.grows.epochs, length-append earlier.epochs u.update.grows.more_epochs, u.update.update.base) in
       let same : history_of later ≡ history_of s = fresh_history hash index earlier later p since u.update.update base ∙ sym (fresh_history hash index earlier s p u.update.grows u.update.update before) in
       let had : has_name (latest_registry (history_of s)) name ≡ true = subst (λ (h : List Shown). has_name (latest_registry h) name ≡ true) same has in
-      sym (kept name had) ∙ u.agree before name had;
+      sym (retained name had) ∙ u.agree before name had;
   update = stays hash index s later p grows u.update;
-  held = u.held;
+  stored = u.stored;
 }
 
 -- ---- what an install supplies
@@ -456,12 +456,12 @@ put_next source records i r at =
 -- a name that has the function's index, or is among the pairs, has that index afterwards
 pub put_of : (index_of : List ℕ → List ℕ) (ps source : List Supplied) (name : List ℕ) → AreOf index_of ps → (supplied_index source name ≡ index_of name) ⊎ (is_supplied ps name ≡ true)
     → supplied_index (put_indices source ps) name ≡ index_of name
-put_of index_of [] source name held (inl at) = at
-put_of index_of [] source name held (inr never) = absurd (let no = never in cc)
-put_of index_of (p ∷ ps) source name held known =
-    put_of index_of ps (put_index source p.0 p.1) name held.1
+put_of index_of [] source name stored (inl at) = at
+put_of index_of [] source name stored (inr never) = absurd (let no = never in cc)
+put_of index_of (p ∷ ps) source name stored known =
+    put_of index_of ps (put_index source p.0 p.1) name stored.1
     ((elim (bytes_eq name p.0) as (λ b. bytes_eq name p.0 ≡ b → (supplied_index (put_index source p.0 p.1) name ≡ index_of name) ⊎ (is_supplied ps name ≡ true)) [
-      | true ↦ λ on. inl (index_put p.0 p.1 source name ∙ rw on (held.0 ∙ ap index_of (sym ((bytes_eq-Decides name p.0).0 on))))
+      | true ↦ λ on. inl (index_put p.0 p.1 source name ∙ rw on (stored.0 ∙ ap index_of (sym ((bytes_eq-Decides name p.0).0 on))))
       | false ↦ λ off. elim known [
         | inl at ↦ inl (index_put p.0 p.1 source name ∙ rw off at)
         | inr there ↦ inr (rw off at there)
@@ -482,22 +482,22 @@ has_indices (r ∷ rs) name =
 pub supplied_all : (hash index_of : List ℕ → List ℕ) (source : List Supplied) (s : State) (p : Prepared) → Whole hash (supplied_index source) s
     → AgreeOn (supplied_index source) index_of (latest_registry (history_of s)) → AreOf index_of (indices_in p.records.items)
     → AgreeOn index_of (supplied_index (put_indices source (indices_in p.records.items))) (registry_after s p)
-supplied_all hash index_of source s p whole agree held name has =
+supplied_all hash index_of source s p whole agree stored name has =
     let known = or_cases (has_name (latest_registry (history_of s)) name) (has_name (map registered_of p.records.items) name) (sym (leaves_name hash (supplied_index source) s p name whole) ∙ has) in
-    sym (put_of index_of (indices_in p.records.items) source name held (elim known [
+    sym (put_of index_of (indices_in p.records.items) source name stored (elim known [
       | inl old ↦ inl (agree name old)
       | inr new ↦ inr (has_indices p.records.items name ∙ new)
     ]))
 
 -- the source keeps the indices of the registered names
-pub kept_agree : (index : List ℕ → List ℕ) (source ps : List Supplied) (registry : Registry) → AgreeOn (supplied_index source) index registry → AreOf index ps
+pub retained_agree : (index : List ℕ → List ℕ) (source ps : List Supplied) (registry : Registry) → AgreeOn (supplied_index source) index registry → AreOf index ps
     → AgreeOn (supplied_index source) (supplied_index (put_indices source ps)) registry
-kept_agree index source ps registry agree held name has = agree name has ∙ sym (put_of index ps source name held (inl (agree name has)))
+retained_agree index source ps registry agree stored name has = agree name has ∙ sym (put_of index ps source name stored (inl (agree name has)))
 
-pub held_take : (index : List ℕ → List ℕ) (records : List Record) (n : ℕ) → AreOf index (indices_in records) → AreOf index (indices_in (take n records))
-held_take index records zero held = tt
-held_take index [] (suc n) held = tt
-held_take index (r ∷ rs) (suc n) held = (held.0, held_take index rs n held.1)
+pub stored_take : (index : List ℕ → List ℕ) (records : List Record) (n : ℕ) → AreOf index (indices_in records) → AreOf index (indices_in (take n records))
+stored_take index records zero stored = tt
+stored_take index [] (suc n) stored = tt
+stored_take index (r ∷ rs) (suc n) stored = (stored.0, stored_take index rs n stored.1)
 
 -- ---- what a refused install leaves
 

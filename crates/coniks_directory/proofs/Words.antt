@@ -56,7 +56,7 @@ pub use Rattle.coniks_directory.specs.Chain.{IsChainOf, body_of, head_at, heads_
 pub use Rattle.coniks_directory.specs.Directories.{HasGoodChain, heads}
 pub use Rattle.coniks_directory.specs.History.{AllHaveOwnIndices, AreRising, AreUnder, IsUnder, Shown, last_number, latest_epoch, latest_nonce}
 pub use Rattle.coniks_directory.specs.History.{latest_registry, latest_version, nonce_after, numbers_of, root_at, shown_at, version_after}
-pub use Rattle.coniks_directory.specs.Holders.{HolderIs, IsHeld, IsLatestRoot, ShowsLatest}
+pub use Rattle.coniks_directory.specs.Holders.{HolderIs, IsBoundAt, IsLatestRoot, ShowsLatest}
 pub use Rattle.coniks_directory.specs.Installed.{IsEntered, IsNext, IsSigned, Leaves}
 pub use Rattle.coniks_directory.specs.Judged.{AreChangesOf, ArePendingRecords, AreCommitmentsFrom, AreCommitted, AreCommittedTo, IsCommitmentAt, IsPendingRecord, IsJudged, IsJudgedFault, IsJudgedFaultAfter, number_at, committed_by}
 pub use Rattle.coniks_directory.specs.Lookups.{IsAcceptedAt, IsFound}

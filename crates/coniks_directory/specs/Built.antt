@@ -33,7 +33,7 @@ pub record AreAligned (level : ℕ) (entries changes : List Numbered) : Type 0 w
 
 -- a tree grows by the changes as they are from the root, or anew, by the whole changed map from nothing
 pub record IsGrowth (t : Table) (root : Option Root) (anew : Bool) (changes : List Change) (growth : Growth) : Type 0 where
-  pub kept : anew ≡ false → (growth.root ≡ root) × (growth.changes.items ≡ changes)
+  pub retained : anew ≡ false → (growth.root ≡ root) × (growth.changes.items ≡ changes)
   pub none : anew ≡ true → growth.root ≡ None
   pub all : anew ≡ true → (by : Hashing) (entries : List Numbered)
       → IsOldMap by t root entries
@@ -62,7 +62,7 @@ pub record IsBuilt (hash index_of : Octets → Octets) (nonce : Octets) (t : Tab
   pub fits : Fits (length t.nodes) 0 part
   pub small : IsSmall anew root ops (after registry ops) part
   pub counted : IsCounted anew index_of root registry ops part
-  pub held : AreOf index_of (indices_in new)
+  pub stored : AreOf index_of (indices_in new)
   pub placed : Placed (t.records ++ new) part
   pub entries : List Numbered
   pub stands : Stands (hashing hash nonce) t part [] entries
@@ -80,6 +80,6 @@ pub record IsUpdateBy (hash index_of : Octets → Octets) (s : State)
   pub rotates : RotatesTo s new_nonce p
   pub registry : registry_after s p ≡ after (latest_registry (history_of s)) (operations ops)
   pub binds : map registered_of p.records.items ≡ map bound_by (operations ops)
-  pub held : AreOf index_of (indices_of p)
+  pub stored : AreOf index_of (indices_of p)
   pub few : AddsFew s new_nonce ops p
   pub nodes : p.new_nodes ≡ epoch_nodes index_of (history_of s) new_nonce (operations ops)

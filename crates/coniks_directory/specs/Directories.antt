@@ -1,4 +1,4 @@
--- A directory as contracts see it, and what is said of the whole of it.
+-- A directory as contracts see it, and what is stated about the whole of it.
 use Rattle.std.specs.Prelude.{◌≡◌, ◌==◌, ℕ, List, length, Bool, Option, option_map}
 use Rattle.std.specs.List.{find}
 use Rattle.coniks_proof.specs.Octets.{Octets}
@@ -29,7 +29,7 @@ registry {H} {X} d = latest_registry (history_of d.state)
 abbrev pub entry : {H X : Type 0} → View H X → ℕ → Option Entry
 entry {H} {X} d t = find (λ (e : Entry). e.body.t == t) d.state.chain
 
--- what is said of a directory by the digests of its hash and the indices of its source
+-- what is stated about a directory by the digests of its hash and the indices of its source
 module _ {H X : Type 0} (digest : H → Octets → Octets) (index : X → Octets → Octets) (d : View H X) where
   -- the root of the epoch of exactly this number
   abbrev pub root_of_epoch : ℕ → Option Octets

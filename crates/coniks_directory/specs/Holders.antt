@@ -13,7 +13,7 @@ use Rattle.coniks_directory.specs.History.{latest_nonce, latest_registry}
 use Rattle.coniks_directory.specs.State.{ShowsRegistry, State, history_of, registered_of}
 
 -- the one name of the registry that has the index
-pub record IsHeld (index_of : Octets → Octets) (registry : Registry) (index : Octets) (b : Registered) : Type 0 where
+pub record IsBoundAt (index_of : Octets → Octets) (registry : Registry) (index : Octets) (b : Registered) : Type 0 where
   pub at : index_of b.name ≡ index
   pub has : has_name registry b.name ≡ true
   pub only : (name : Octets) → index_of name ≡ index → has_name registry name ≡ true → name ≡ b.name
@@ -21,7 +21,7 @@ pub record IsHeld (index_of : Octets → Octets) (registry : Registry) (index : 
 -- no registered name has the index, or exactly the name of this record
 abbrev pub HolderIs : (Octets → Octets) → Registry → Octets → Option (Bor Record) → Type 0
 HolderIs index_of registry index None = IsFree index_of registry index
-HolderIs index_of registry index (Some r) = IsHeld index_of registry index (registered_of r.now)
+HolderIs index_of registry index (Some r) = IsBoundAt index_of registry index (registered_of r.now)
 
 -- the root shows the registry, which is empty if there is no root
 abbrev pub ShowsLatest : (Octets → Octets) → (Octets → Octets) → Octets → Table → Option Root → Registry → Type 0

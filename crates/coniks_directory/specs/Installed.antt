@@ -26,11 +26,11 @@ abbrev pub IsSigned : (Octets → Octets) → State → Prepared → ℕ → Bod
 IsSigned hash s p t body = (index_of : Octets → Octets) → Whole hash index_of s → IsUpdate hash index_of s p → IsNext hash index_of s p t body
 
 -- there is room for the update's nodes and records, and for one more epoch and entry
-pub record HasRoom (held : DirectoryState) (p : Prepared) : Type 0 where
-  pub nodes : length held.tree.nodes + node_count p.part ≤ held.tree.node_room
-  pub records : length held.tree.records + length p.records.items ≤ held.tree.record_room
-  pub epochs : vec_len held.epochs < vec_capacity held.epochs
-  pub chain : vec_len held.chain < vec_capacity held.chain
+pub record HasRoom (stored : DirectoryState) (p : Prepared) : Type 0 where
+  pub nodes : length stored.tree.nodes + node_count p.part ≤ stored.tree.node_room
+  pub records : length stored.tree.records + length p.records.items ≤ stored.tree.record_room
+  pub epochs : vec_len stored.epochs < vec_capacity stored.epochs
+  pub chain : vec_len stored.chain < vec_capacity stored.chain
 
 -- what an install of the update under a number leaves
 pub record Leaves (hash index_of : Octets → Octets) (s later : State) (p : Prepared) (t : ℕ) (entry : Entry) : Type 0 where
@@ -48,13 +48,13 @@ IsEntered hash s later p t entry = (index_of : Octets → Octets)
 
 -- what attaching the update under a number leaves, whatever the entry says
 pub record Attached (hash index_of : Octets → Octets) (s later : State) (p : Prepared) (t : ℕ) (entry : Entry) : Type 0 where
-  pub held : (k : ℕ) (e : Epoch) → slice_get later.epochs k ≡ Some e → HoldsEpoch hash index_of (table later.nodes later.records) e
+  pub stored : (k : ℕ) (e : Epoch) → slice_get later.epochs k ≡ Some e → HoldsEpoch hash index_of (table later.nodes later.records) e
   pub last : last_count later.epochs ≡ length later.records
   pub history : history_of later ≡ history_of s ++ shown_after s p t ∷ []
   pub grows : Grows s later
   pub chain : later.chain ≡ s.chain ++ entry ∷ []
 
--- if the epochs of the state are held, and the update is one of it, then this attaches it
+-- if the epochs of the state are stored, and the update is one of it, then this attaches it
 abbrev pub IsAttached : (Octets → Octets) → State → State → Prepared → ℕ → Entry → Type 0
 IsAttached hash s later p t entry = (index_of : Octets → Octets)
     → ((k : ℕ) (e : Epoch) → slice_get s.epochs k ≡ Some e → HoldsEpoch hash index_of (table s.nodes s.records) e)

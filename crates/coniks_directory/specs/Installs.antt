@@ -76,7 +76,7 @@ pub record HasSigned {S : Type 0} (made_of refused_of : S → ℕ) (last_of : S 
   pub made : made_of new ≡ made_of old + 1
   pub refused : refused_of new ≡ refused_of old
   pub last : last_of new ≡ Some entry
-  pub asked : signs old (body_bytes entry.body) (Some entry.signature) new
+  pub requested : signs old (body_bytes entry.body) (Some entry.signature) new
   pub verdict : verdict_of new (body_bytes entry.body) entry.signature.0 ≡ true
 
 -- ---- an entry or an error
@@ -109,7 +109,7 @@ pub record Keeps {H X S : Type 0} (digest : H → Octets → Octets) (verdict_of
     (d later : View H X) (old new : S) (before after : BoardEnd) : Type 0 where
   pub grows : Grows d.state later.state
   pub good : HasGoodChain digest (verdict_of old) d → HasGoodChain digest (verdict_of new) later
-  pub verdicts_kept : (bytes signature : Octets) → verdict_of new bytes signature ≡ verdict_of old bytes signature
+  pub verdicts_retained : (bytes signature : Octets) → verdict_of new bytes signature ≡ verdict_of old bytes signature
   pub heads : after.heads ≡ heads digest later
   pub table : after.table ≡ before.table
 
@@ -126,11 +126,11 @@ pub record KeepsIndices {H : Type 0} (d later : View H (List Supplied)) : Type 0
 
 -- ---- an error
 
--- the body that an install of the update asks for
+-- the body that an install of the update requests
 abbrev pub update_body : {H X : Type 0} → (H → Octets → Octets) → (X → Octets → Octets) → View H X → Prepared → ℕ → Body
 update_body {H} {X} digest index d update t = NextBody digest index d (shown_after d.state update t)
 
--- the body that a commit of the batch asks for
+-- the body that a commit of the batch requests
 abbrev pub batch_body : {H X : Type 0} → (H → Octets → Octets) → (X → Octets → Octets) → View H X → Option Nonce → List Op → ℕ → Body
 batch_body {H} {X} digest index d nonce ops t = NextBody digest index d (shown_with d.state (nonce_bytes nonce) (operations ops) t)
 

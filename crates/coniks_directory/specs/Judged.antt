@@ -56,7 +56,7 @@ pub record ArePendingRecords (hash index_of : Octets → Octets) (bound : List R
     (records : List Record) (numbers : BTreeMap Octets ℕ) : Type 0 where
   pub binds : map registered_of records ≡ bound
   pub drafted : (n : ℕ) (r : Record) → slice_get records n ≡ Some r → IsPendingRecord index_of r
-  pub kept : (index : Octets) (n : ℕ) → number_at numbers index ≡ Some n
+  pub retained : (index : Octets) (n : ℕ) → number_at numbers index ≡ Some n
       → (r : Record) × (slice_get records n ≡ Some r) × (r.index.0 ≡ index)
   pub all : (n : ℕ) (r : Record) → slice_get records n ≡ Some r → number_at numbers r.index.0 ≡ Some n
   pub ordered : IsOrdered (slice_cmp nat_cmp) numbers

@@ -13,6 +13,7 @@ pub mod Directories
 pub mod Runs
 pub mod Nodes
 pub mod SuppliedBatches
+pub mod Supplying
 pub mod Installs
 pub mod Restored
 pub mod Alike

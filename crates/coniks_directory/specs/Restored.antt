@@ -15,8 +15,8 @@ use Rattle.coniks_directory.specs.declared.restoring.RestoreFault.{RestoreFault}
 use Rattle.coniks_directory.specs.declared.restoring.RestoreFault.TheVariants.{NotLater, Version, Malformed, RootDiffers, OutOfMemory}
 
 -- what an entry itself says of the one before it, with its own version and nonce
-abbrev pub said_before : Entry → AuditorState
-said_before entry = record { t = entry.body.t_prev; link = entry.body.previous; version = entry.body.version; nonce = entry.body.nonce }
+abbrev pub stated_before : Entry → AuditorState
+stated_before entry = record { t = entry.body.t_prev; link = entry.body.previous; version = entry.body.version; nonce = entry.body.nonce }
 
 -- the epoch of an entry, with the registry that bindings leave
 abbrev pub restored_epoch : Entry → List Operation → Shown
@@ -26,7 +26,7 @@ restored_epoch entry ops = record { t = entry.body.t; version = entry.body.versi
 pub record Restores (entry : Entry) (ops : List Operation) (s : State) : Type 0 where
   pub nonce : s.nonce ≡ entry.body.nonce.0
   pub policy : s.policy ≡ entry.body.policy
-  pub before : s.before ≡ Some (said_before entry)
+  pub before : s.before ≡ Some (stated_before entry)
   pub history : history_of s ≡ restored_epoch entry ops ∷ []
   pub chain : s.chain ≡ entry ∷ []
 

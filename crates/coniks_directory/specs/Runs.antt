@@ -8,7 +8,7 @@ use Rattle.coniks_chain.specs.declared.auditor.AuditorState.{AuditorState}
 use Rattle.coniks_chain.specs.declared.entry.Entry.{Entry}
 use Rattle.coniks_directory.specs.Batches.{IsAccepted}
 use Rattle.coniks_directory.specs.History.{Shown, latest_registry, nonce_after, version_after}
-use Rattle.coniks_directory.specs.Restored.{Restores, restored_epoch, said_before}
+use Rattle.coniks_directory.specs.Restored.{Restores, restored_epoch, stated_before}
 use Rattle.coniks_directory.specs.State.{State, history_of, opened as nothing}
 use Rattle.coniks_directory.specs.Supplied.{AgreeOn}
 use Rattle.coniks_directory.specs.Updates.{RotatesTo, Grows, IsUpdate, ComesNext, base_of, registry_after, shown_after, shown_with}
@@ -48,7 +48,7 @@ policy_of (restoring entry ops) = entry.body.policy
 -- what the first entry of its chain is compared with
 abbrev pub begins_after : Start → Option AuditorState
 begins_after (opening nonce policy) = None
-begins_after (restoring entry ops) = Some (said_before entry)
+begins_after (restoring entry ops) = Some (stated_before entry)
 
 -- the directory that batches define: its epochs, from version 1, the nonce of `open` and the empty registry on, or from the
 -- entry's epoch on

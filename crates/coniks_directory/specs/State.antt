@@ -98,7 +98,7 @@ last_count (e ∷ f ∷ es) = last_count (f ∷ es)
 
 -- what is true of what a directory holds
 pub record Whole (hash index_of : Octets → Octets) (s : State) : Type 0 where
-  pub held : (k : ℕ) (e : Epoch) → slice_get s.epochs k ≡ Some e → HoldsEpoch hash index_of (table s.nodes s.records) e
+  pub stored : (k : ℕ) (e : Epoch) → slice_get s.epochs k ≡ Some e → HoldsEpoch hash index_of (table s.nodes s.records) e
   pub last : last_count s.epochs ≡ length s.records
   pub begun : s.chain ≡ [] → s.before ≡ None
   pub rising : AreRising (epoch_before s.before) (numbers_of (history_of s))
@@ -107,12 +107,12 @@ pub record Whole (hash index_of : Octets → Octets) (s : State) : Type 0 where
 
 -- the stored link is the one that the next entry contains: that of the last entry, or zeros if there is none
 abbrev pub IsLinked : (Octets → Octets) → DirectoryState → Type 0
-IsLinked hash held = held.link.0 ≡ link_before (before_at hash held.before held.chain.items (length held.chain.items))
+IsLinked hash stored = stored.link.0 ≡ link_before (before_at hash stored.before stored.chain.items (length stored.chain.items))
 
 -- what is true of a directory: of the state that contracts see, and of the stored link
-pub record IsDirectory (hash index_of : Octets → Octets) (held : DirectoryState) : Type 0 where
-  pub whole : Whole hash index_of (state_of held)
-  pub linked : IsLinked hash held
+pub record IsDirectory (hash index_of : Octets → Octets) (stored : DirectoryState) : Type 0 where
+  pub whole : Whole hash index_of (state_of stored)
+  pub linked : IsLinked hash stored
 
 -- the epoch of exactly this number, with the entry of that number
 pub record IsEpochAt (hash index_of : Octets → Octets) (s : State) (t : ℕ) (e : Epoch) (entry : Entry) : Type 0 where

@@ -25,7 +25,7 @@ pub record IsSupplied (index_of : Octets → Octets) (name index : Octets) (also
 -- the name has a name's length, and isn't registered with another index
 pub record MaySupply (index_of : Octets → Octets) (registry : Registry) (name index : Octets) : Type 0 where
   pub sized : fits MAX_NAME name ≡ true
-  pub kept : has_name registry name ≡ true → index_of name ≡ index
+  pub retained : has_name registry name ≡ true → index_of name ≡ index
 
 -- the name is registered with another index
 abbrev pub HasOtherIndex : (Octets → Octets) → Registry → Octets → Octets → Type 0

@@ -186,4 +186,4 @@ AreOf index_of (x ∷ xs) = (x.1 ≡ index_of x.0) × AreOf index_of xs
 pub record IsSuppliedUpdate (hash index_of : Octets → Octets) (s : State) (p : Prepared) (index : Octets → Octets) : Type 0 where
   pub agree : base_of p ≡ length s.epochs → AgreeOn index_of index (latest_registry (history_of s))
   pub update : IsUpdateOf hash index s p
-  pub held : AreOf index (indices_of p)
+  pub stored : AreOf index (indices_of p)

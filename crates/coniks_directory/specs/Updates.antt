@@ -122,7 +122,7 @@ refusals BoardFull = 0
 refusals OutOfMemory = 0
 refusals SignerRefused = 1
 
--- what a refused install leaves of its signer: asked for this body it gave no signature, or it is as it was
+-- what a refused install leaves of its signer: requested this body it gave no signature, or it is as it was
 abbrev pub LeavesSigner : {S : Type 0} → (S → Octets → Option Signature → S → Type 0) → Body → S → S → InstallFault → Type 0
 LeavesSigner signs body old new (Stale latest) = new ≡ old
 LeavesSigner signs body old new (EpochNotLater latest) = new ≡ old

@@ -41,7 +41,7 @@ pub struct Directory<H: Hash32, X: IndexSource> {
     alloc: Global,
     h: H,
     source: X,
-    held: DirectoryState,
+    stored: DirectoryState,
 }
 
 impl<H: Hash32, X: IndexSource> Model for Directory<H, X> {
@@ -49,9 +49,9 @@ impl<H: Hash32, X: IndexSource> Model for Directory<H, X> {
 
     ghost Value = { View H X };
 
-    ghost view = { λ d. record { hash = d.h; index = d.source; state = state_of d.held } };
+    ghost view = { λ d. record { hash = d.h; index = d.source; state = state_of d.stored } };
 
-    ghost invariant = { λ d. IsDirectory (H.digest_of d.h) (X.index_of d.source) d.held };
+    ghost invariant = { λ d. IsDirectory (H.digest_of d.h) (X.index_of d.source) d.stored };
 }
 
 impl<H: Hash32, X: IndexSource> Directory<H, X> {
@@ -71,7 +71,7 @@ impl<H: Hash32, X: IndexSource> Directory<H, X> {
             alloc,
             h,
             source,
-            held: DirectoryState::new(alloc, nonce, policy),
+            stored: DirectoryState::new(alloc, nonce, policy),
         }
     }
 
@@ -79,7 +79,7 @@ impl<H: Hash32, X: IndexSource> Directory<H, X> {
     pub fn nodes(&self) -> usize
         ensures { result ≡ length self.now.state.nodes }
     {
-        self.held.tree.nodes()
+        self.stored.tree.nodes()
     }
 
     /// Returns the signed tree roots (STRs), one entry for each epoch, which an auditor verifies.
@@ -90,14 +90,14 @@ impl<H: Hash32, X: IndexSource> Directory<H, X> {
         ensures under { AreUnder 1 self.now.state.nonce (history self.now) }
         ensures names { AllHaveOwnIndices (X.index_of self.now.index) (history self.now) }
     {
-        &self.held.chain
+        &self.stored.chain
     }
 
     /// Returns the number of the latest epoch, or 0 before the first.
     pub fn latest_epoch(&self) -> u64
         ensures { result ≡ latest_epoch (history self.now) }
     {
-        self.held.latest()
+        self.stored.latest()
     }
 
     /// Returns the link of the latest entry, or 32 zero bytes before the first.
@@ -105,15 +105,15 @@ impl<H: Hash32, X: IndexSource> Directory<H, X> {
         ensures link { result.0 ≡ link_before (before_at (H.digest_of self.now.hash) self.now.state.before self.now.state.chain (length self.now.state.chain)) }
         ensures of_last { (earlier : List Entry) (entry : Entry) → self.now.state.chain ≡ earlier ++ entry ∷ [] → result.0 ≡ H.digest_of self.now.hash (link_preimage entry) }
     {
-        self.held.link
+        self.stored.link
     }
 
     /// Returns the root of an epoch, if one was installed under exactly this number.
     pub fn root_at(&self, t: u64) -> Option<Digest>
         ensures { option_map (λ (r : Digest). r.0) result ≡ root_of_epoch H.digest_of X.index_of self.now t }
     {
-        match self.held.installed(t) {
-            Some((epoch, _)) => Some(self.held.tree.node_hash(epoch.root)),
+        match self.stored.installed(t) {
+            Some((epoch, _)) => Some(self.stored.tree.node_hash(epoch.root)),
             None => None,
         }
     }
@@ -154,14 +154,14 @@ impl<H: Hash32, X: IndexSource> Directory<H, X> {
         ensures checks { IfOk result (IsAcceptedUnder (H.digest_of self.now.hash) (X.index_of self.now.index) (history self.now) t name.now) }
         ensures missed { IfErr result (IsMissed (history self.now) t name.now) }
     {
-        let Some((epoch, entry)) = self.held.installed(t) else {
+        let Some((epoch, entry)) = self.stored.installed(t) else {
             return Err(LookupFault::UnknownEpoch);
         };
         if !is_length(name, MAX_NAME) {
             return Err(LookupFault::NameLength);
         }
         let index = self.source.index(name);
-        match self.held.tree.path(epoch.root, &index) {
+        match self.stored.tree.path(epoch.root, &index) {
             Ok(proof) => Ok(SignedProof {
                 entry,
                 index,
@@ -198,13 +198,13 @@ impl<H: Hash32, X: IndexSource> Directory<H, X> {
         ensures page { IfOk result (λ page. ArePageAt (H.digest_of self.now.hash) (X.index_of self.now.index) (history self.now) t after most page.items) }
         ensures refused { IfErr result (IsUnlisted (history self.now) t) }
     {
-        let Some((epoch, _)) = self.held.installed(t) else {
+        let Some((epoch, _)) = self.stored.installed(t) else {
             return Err(BindingsFault::UnknownEpoch);
         };
-        let Ok(page) = self.held.tree.page(epoch.root, after, most) else {
+        let Ok(page) = self.stored.tree.page(epoch.root, after, most) else {
             return Err(BindingsFault::OutOfMemory);
         };
-        match bindings_of(self.alloc, &self.held.tree, &page) {
+        match bindings_of(self.alloc, &self.stored.tree, &page) {
             Ok(bindings) => Ok(bindings),
             Err(_) => Err(BindingsFault::OutOfMemory),
         }
@@ -230,8 +230,8 @@ impl<H: Hash32, X: IndexSource> Directory<H, X> {
         requires { index.now.0 ≡ X.index_of self.now.index name.now }
         ensures { result ≡ has_name (registry self.now) name.now }
     {
-        let root = self.held.latest_root();
-        is_of(holder_at(&self.held.tree, root, index), name)
+        let root = self.stored.latest_root();
+        is_of(holder_at(&self.stored.tree, root, index), name)
     }
 
     /// Returns whether the name is registered after an install of the update.
@@ -239,7 +239,7 @@ impl<H: Hash32, X: IndexSource> Directory<H, X> {
         ensures { result ≡ has_name (registry_after self.now.state update.now) name.now }
     {
         // Read for the contract alone.
-        let _ = &self.held;
+        let _ = &self.stored;
         self.is_registered(name) || update.binds(name)
     }
 
@@ -252,7 +252,7 @@ impl<H: Hash32, X: IndexSource> Directory<H, X> {
             → IsUpdate (H.digest_of self.now.hash) index self.now.state update.now
             → result ≡ NextBodyBy H.digest_of self.now index (shown_after self.now.state update.now t) }
     {
-        make_body(&self.held, &self.h, update, t)
+        make_body(&self.stored, &self.h, update, t)
     }
 }
 
@@ -263,7 +263,7 @@ impl<H: Hash32, X: IndexSource> Directory<H, X> {
     /// Installs an update under a later epoch, and returns the epoch's entry.
     ///
     /// Attaches the update's tree, asks the signer to sign its entry, stores the entry in the chain and publishes the
-    /// head. All memory is allocated before the signer is asked, and nothing can fail after that. The call waits for no
+    /// head. All memory is allocated before the signer is called, and nothing can fail after that. The call waits for no
     /// other thread.
     ///
     /// The update was prepared from this directory. The publisher is the board's, and has published exactly the heads of
@@ -298,21 +298,21 @@ impl<H: Hash32, X: IndexSource> Directory<H, X> {
         // An entry or an error.
         ensures outcome { IsInstallResult self.old.state update t (length publisher.old.heads) board.now.capacity result }
         ensures same { IsAlike self.new self.old }
-        ensures kept { Keeps H.digest_of S.verdict_of self.old self.new signer.old signer.new publisher.old publisher.new }
+        ensures retained { Keeps H.digest_of S.verdict_of self.old self.new signer.old signer.new publisher.old publisher.new }
 
         // An error.
         ensures unchanged { OnErr result ((self.new ≡ self.old) × (publisher.new ≡ publisher.old)) }
         ensures unsigned { IfErr result (λ r. HasRefused S.made_of S.refused_of S.last_of signer.old signer.new (refusals r.0)) }
-        ensures unasked { IfErr result (λ r. LeavesSigner S.signs (update_body H.digest_of X.index_of self.old update t) signer.old signer.new r.0) }
+        ensures unrequested { IfErr result (λ r. LeavesSigner S.signs (update_body H.digest_of X.index_of self.old update t) signer.old signer.new r.0) }
     {
         let (published, capacity) = (publisher.published(), board.capacity());
-        if let Err(fault) = may_install(&self.held, update.base, t, published, capacity) {
+        if let Err(fault) = may_install(&self.stored, update.base, t, published, capacity) {
             return Err((fault, update));
         }
-        match signed(&mut self.held, &self.h, &update, t, signer) {
+        match signed(&mut self.stored, &self.h, &update, t, signer) {
             Ok(entry) => {
                 let link = link(&self.h, &entry);
-                enter(&mut self.held, &self.h, update, t, entry, link);
+                enter(&mut self.stored, &self.h, update, t, entry, link);
                 put_head(publisher, board, head_of(&entry, link));
                 Ok(entry)
             }
@@ -339,7 +339,7 @@ impl<H: Hash32 + Sync, X: IndexSource> Directory<H, X> {
     /// # Errors
     ///
     /// If several apply, the first in this order is returned. `OutOfMemory` can also replace `At`. After an error nothing
-    /// of the batch is kept, and the same call can be made again.
+    /// of the batch is retained, and the same call can be made again.
     ///
     /// - `Workers` if `workers` is not 1 to `coniks_threads::MAX_WORKERS`.
     /// - `Depth` if `depth` is more than `coniks_threads::MAX_DEPTH`.
@@ -369,7 +369,7 @@ impl<H: Hash32 + Sync, X: IndexSource> Directory<H, X> {
     /// Prepares an update as `prepare` does, with the epoch's tree rehashed under a new nonce.
     ///
     /// Every node of the tree is new, and none is shared with the epochs before, even if the nonce equals the latest one.
-    /// The same worker threads build it. Commitments do not contain the nonce and are kept. The epoch's entry and all
+    /// The same worker threads build it. Commitments do not contain the nonce and are reused. The epoch's entry and all
     /// later ones have version 2.
     ///
     /// # Errors
@@ -430,7 +430,7 @@ impl<H: Hash32 + Sync, X: IndexSource> Directory<H, X> {
             alloc: self.alloc,
             h: &self.h,
             source: &self.source,
-            held: &self.held,
+            stored: &self.stored,
         };
         Ok(update_on(build, &origin, nonce, ops)?)
     }
@@ -468,12 +468,12 @@ impl<H: Hash32 + Sync, X: IndexSource> Directory<H, X> {
         // An entry or an error.
         ensures outcome { IsCommitResult X.index_of self.old ops.now depth workers t (length publisher.old.heads) board.now.capacity result }
         ensures same { IsAlike self.new self.old }
-        ensures kept { Keeps H.digest_of S.verdict_of self.old self.new signer.old signer.new publisher.old publisher.new }
+        ensures retained { Keeps H.digest_of S.verdict_of self.old self.new signer.old signer.new publisher.old publisher.new }
 
         // An error.
         ensures unchanged { OnErr result ((self.new ≡ self.old) × (publisher.new ≡ publisher.old)) }
         ensures unsigned { IfErr result (λ fault. HasRefused S.made_of S.refused_of S.last_of signer.old signer.new (commit_refusals fault)) }
-        ensures unasked { IfErr result (CommitLeavesSigner S.signs (batch_body H.digest_of X.index_of self.old None ops.now t) signer.old signer.new) }
+        ensures unrequested { IfErr result (CommitLeavesSigner S.signs (batch_body H.digest_of X.index_of self.old None ops.now t) signer.old signer.new) }
     {
         let update = in_prepare(self.prepare(rt, ops, depth, workers, gate))?;
         match self.install(update, t, signer, publisher, board) {
@@ -512,12 +512,12 @@ impl<H: Hash32 + Sync, X: IndexSource> Directory<H, X> {
         // An entry or an error.
         ensures outcome { IsCommitResult X.index_of self.old ops.items parallelism.depth parallelism.workers t (length publisher.old.heads) board.now.capacity result }
         ensures same { IsAlike self.new self.old }
-        ensures kept { Keeps H.digest_of S.verdict_of self.old self.new signer.old signer.new publisher.old publisher.new }
+        ensures retained { Keeps H.digest_of S.verdict_of self.old self.new signer.old signer.new publisher.old publisher.new }
 
         // An error.
         ensures unchanged { OnErr result ((self.new ≡ self.old) × (publisher.new ≡ publisher.old)) }
         ensures unsigned { IfErr result (λ fault. HasRefused S.made_of S.refused_of S.last_of signer.old signer.new (commit_refusals fault)) }
-        ensures unasked { IfErr result (CommitLeavesSigner S.signs (batch_body H.digest_of X.index_of self.old nonce ops.items t) signer.old signer.new) }
+        ensures unrequested { IfErr result (CommitLeavesSigner S.signs (batch_body H.digest_of X.index_of self.old nonce ops.items t) signer.old signer.new) }
     {
         let build = Build {
             rt,

@@ -21,14 +21,14 @@ use coniks_threads::{Board, Publisher};
 use coniks_tree::OutOfMemory;
 
 /// Checks that an update comes next under a number. There were `base` epochs when it was prepared.
-pub(crate) fn check_next(held: &DirectoryState, base: usize, t: u64) -> Result<(), InstallFault>
-    ensures ok { OnOk result (ComesNext (state_of held.now) base t) }
-    ensures refused { IfErr result (IsNotNext (state_of held.now) base t) }
-    ensures uninstalled { IfErr result (λ fault. (published capacity : ℕ) → IsRefused (state_of held.now) base t published capacity fault) }
+pub(crate) fn check_next(stored: &DirectoryState, base: usize, t: u64) -> Result<(), InstallFault>
+    ensures ok { OnOk result (ComesNext (state_of stored.now) base t) }
+    ensures refused { IfErr result (IsNotNext (state_of stored.now) base t) }
+    ensures uninstalled { IfErr result (λ fault. (published capacity : ℕ) → IsRefused (state_of stored.now) base t published capacity fault) }
     ensures unsigned { IfErr result (λ fault. refusals fault ≡ 0) }
 {
-    let latest = held.latest();
-    if base != held.count() {
+    let latest = stored.latest();
+    if base != stored.count() {
         return Err(InstallFault::Stale { latest });
     }
     if t <= latest {
@@ -41,17 +41,17 @@ pub(crate) fn check_next(held: &DirectoryState, base: usize, t: u64) -> Result<(
 ///
 /// There were `base` epochs when it was prepared, and `published` heads are on a board of this capacity.
 pub(crate) fn may_install(
-    held: &DirectoryState,
+    stored: &DirectoryState,
     base: usize,
     t: u64,
     published: usize,
     capacity: usize,
 ) -> Result<(), InstallFault>
-    ensures ok { OnOk result (MayInstall (state_of held.now) base t published capacity) }
-    ensures refused { IfErr result (IsRefused (state_of held.now) base t published capacity) }
+    ensures ok { OnOk result (MayInstall (state_of stored.now) base t published capacity) }
+    ensures refused { IfErr result (IsRefused (state_of stored.now) base t published capacity) }
     ensures unsigned { IfErr result (λ fault. refusals fault ≡ 0) }
 {
-    if let Err(fault) = check_next(held, base, t) {
+    if let Err(fault) = check_next(stored, base, t) {
         return Err(fault);
     }
     if published == capacity {
@@ -61,66 +61,71 @@ pub(crate) fn may_install(
 }
 
 /// Reserves room for an update's nodes and records, and for one more epoch and entry.
-pub(crate) fn make_room(held: &mut DirectoryState, update: &Prepared) -> Result<(), OutOfMemory>
-    requires { Fits (length held.old.tree.nodes) 0 update.now.part }
-    ensures same { state_of held.new ≡ state_of held.old }
-    ensures link { held.new.link ≡ held.old.link }
-    ensures room { OnOk result (HasRoom held.new update.now) }
+pub(crate) fn make_room(stored: &mut DirectoryState, update: &Prepared) -> Result<(), OutOfMemory>
+    requires { Fits (length stored.old.tree.nodes) 0 update.now.part }
+    ensures same { state_of stored.new ≡ state_of stored.old }
+    ensures link { stored.new.link ≡ stored.old.link }
+    ensures room { OnOk result (HasRoom stored.new update.now) }
 {
-    held.tree.reserve(&update.part, update.records.len())?;
-    held.epochs.try_reserve(1)?;
-    held.chain.try_reserve(1)?;
+    stored.tree.reserve(&update.part, update.records.len())?;
+    stored.epochs.try_reserve(1)?;
+    stored.chain.try_reserve(1)?;
     Ok(())
 }
 
 /// Returns the body of the epoch that an update makes under a number.
-pub(crate) fn make_body<H: Hash32>(held: &DirectoryState, h: &H, update: &Prepared, t: u64) -> Body
-    requires fits { Fits (length held.now.tree.nodes) 0 update.now.part }
-    requires linked { IsLinked (H.digest_of h.now) held.now }
-    ensures { IsSigned (H.digest_of h.now) (state_of held.now) update.now t result }
+pub(crate) fn make_body<H: Hash32>(
+    stored: &DirectoryState,
+    h: &H,
+    update: &Prepared,
+    t: u64,
+) -> Body
+    requires fits { Fits (length stored.now.tree.nodes) 0 update.now.part }
+    requires linked { IsLinked (H.digest_of h.now) stored.now }
+    ensures { IsSigned (H.digest_of h.now) (state_of stored.now) update.now t result }
 {
     Body {
         version: update.version,
         t,
-        t_prev: held.latest(),
-        root: held.tree.part_hash(h, &update.nonce, &update.part),
-        previous: held.link,
+        t_prev: stored.latest(),
+        root: stored.tree.part_hash(h, &update.nonce, &update.part),
+        previous: stored.link,
         nonce: update.nonce,
-        policy: held.policy,
+        policy: stored.policy,
     }
 }
 
 /// Reserves room for an update, and returns the signed entry of the epoch that it makes under a number.
 ///
-/// The signer is not asked if there is no room.
+/// The signer is not called if there is no room.
 pub(crate) fn signed<H: Hash32, S: Sign>(
-    held: &mut DirectoryState,
+    stored: &mut DirectoryState,
     h: &H,
     update: &Prepared,
     t: u64,
     signer: &mut S,
 ) -> Result<Entry, InstallFault>
-    requires fits { Fits (length held.old.tree.nodes) 0 update.now.part }
-    requires linked { IsLinked (H.digest_of h.now) held.old }
+    requires fits { Fits (length stored.old.tree.nodes) 0 update.now.part }
+    requires linked { IsLinked (H.digest_of h.now) stored.old }
     requires made_below { S.made_of signer.old < 2 ^ 64 - 1 }
     requires refused_below { S.refused_of signer.old < 2 ^ 64 - 1 }
-    ensures same { state_of held.new ≡ state_of held.old }
-    ensures link { held.new.link ≡ held.old.link }
-    ensures room { OnOk result (HasRoom held.new update.now) }
-    ensures body { IfOk result (λ entry. IsSigned (H.digest_of h.now) (state_of held.old) update.now t entry.body) }
+    ensures same { state_of stored.new ≡ state_of stored.old }
+    ensures link { stored.new.link ≡ stored.old.link }
+    ensures room { OnOk result (HasRoom stored.new update.now) }
+    ensures body { IfOk result (λ entry. IsSigned (H.digest_of h.now) (state_of stored.old) update.now t entry.body) }
     ensures signed { IfOk result (HasSigned S.made_of S.refused_of S.last_of S.signs S.verdict_of signer.old signer.new) }
-    ensures unasked { IfErr result
-        (λ fault. (wanted : Body) → ((body : Body) → IsSigned (H.digest_of h.now) (state_of held.old) update.now t body → body ≡ wanted)
+    ensures unrequested { IfErr result
+        (λ fault. (wanted : Body) → ((body : Body) → IsSigned (H.digest_of h.now) (state_of stored.old) update.now t body → body ≡ wanted)
         → LeavesSigner S.signs wanted signer.old signer.new fault) }
-    ensures verdicts_kept { (bytes signature : Octets) → S.verdict_of signer.new bytes signature ≡ S.verdict_of signer.old bytes signature }
+    ensures verdicts_retained { (bytes signature : Octets) → S.verdict_of signer.new bytes signature ≡ S.verdict_of signer.old bytes signature }
     ensures refused { IfErr result
         (λ fault. (s : State) (base published capacity : ℕ) → MayInstall s base t published capacity → IsRefused s base t published capacity fault) }
     ensures unsigned { IfErr result (λ fault. HasRefused S.made_of S.refused_of S.last_of signer.old signer.new (refusals fault)) }
 {
-    if make_room(held, update).is_err() {
+    if make_room(stored, update).is_err() {
         return Err(InstallFault::OutOfMemory);
     }
-    let body = make_body(held, h, update, t);
+    let body = make_body(stored, h, update, t);
     body.known();
     match signer.sign(&body.bytes()) {
         Some(signature) => Ok(Entry { body, signature }),
@@ -165,7 +170,7 @@ fn put_entry(chain: &mut Vec<Entry>, entry: Entry)
 
 /// Attaches an update, for which there is room, adds its epoch and its entry, and stores the entry's link.
 pub(crate) fn enter<H: Hash32>(
-    held: &mut DirectoryState,
+    stored: &mut DirectoryState,
     h: &H,
     update: Prepared,
     t: u64,
@@ -173,14 +178,14 @@ pub(crate) fn enter<H: Hash32>(
     link: Digest,
 )
     requires link { link.0 ≡ H.digest_of h.now (link_preimage entry) }
-    requires fits { Fits (length held.old.tree.nodes) 0 update.part }
-    requires placed { Placed (held.old.tree.records ++ update.records.items) update.part }
-    requires room { HasRoom held.old update }
-    ensures count { length held.new.tree.nodes ≡ length held.old.tree.nodes + nodes_added update }
-    ensures last { held.new.chain.items ≡ held.old.chain.items ++ entry ∷ [] }
-    ensures linked { IsLinked (H.digest_of h.now) held.new }
-    ensures attached { (s : State) → state_of held.old ≡ s → IsAttached (H.digest_of h.now) s (state_of held.new) update t entry }
-    ensures entered { (s : State) → state_of held.old ≡ s → IsEntered (H.digest_of h.now) s (state_of held.new) update t entry }
+    requires fits { Fits (length stored.old.tree.nodes) 0 update.part }
+    requires placed { Placed (stored.old.tree.records ++ update.records.items) update.part }
+    requires room { HasRoom stored.old update }
+    ensures count { length stored.new.tree.nodes ≡ length stored.old.tree.nodes + nodes_added update }
+    ensures last { stored.new.chain.items ≡ stored.old.chain.items ++ entry ∷ [] }
+    ensures linked { IsLinked (H.digest_of h.now) stored.new }
+    ensures attached { (s : State) → state_of stored.old ≡ s → IsAttached (H.digest_of h.now) s (state_of stored.new) update t entry }
+    ensures entered { (s : State) → state_of stored.old ≡ s → IsEntered (H.digest_of h.now) s (state_of stored.new) update t entry }
 {
     let Prepared {
         version,
@@ -189,8 +194,8 @@ pub(crate) fn enter<H: Hash32>(
         records,
         ..
     } = update;
-    let root = held.tree.attach(h, &nonce, part, records);
-    let count = held.tree.records();
+    let root = stored.tree.attach(h, &nonce, part, records);
+    let count = stored.tree.records();
     let epoch = Epoch {
         t,
         version,
@@ -198,7 +203,7 @@ pub(crate) fn enter<H: Hash32>(
         root,
         count,
     };
-    put_epoch(&mut held.epochs, epoch);
-    put_entry(&mut held.chain, entry);
-    held.link = link;
+    put_epoch(&mut stored.epochs, epoch);
+    put_entry(&mut stored.chain, entry);
+    stored.link = link;
 }

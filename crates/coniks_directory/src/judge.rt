@@ -33,7 +33,7 @@ fn judge_one<X: IndexSource>(
     ensures pending { result ≡ Ok None → (hash : Octets → Octets) (bound : List Registered)
         → ArePendingRecords hash (X.index_of source.now) bound pending.old.records.items pending.old.numbers
         → ArePendingRecords hash (X.index_of source.now) (bound ++ bound_by (operation_of op) ∷ []) pending.new.records.items pending.new.numbers }
-    ensures kept { result ≢ Ok None → IsSamePending pending.old pending.new }
+    ensures retained { result ≢ Ok None → IsSamePending pending.old pending.new }
 {
     if let Some(fault) = length_fault(&op) {
         return Ok(Some(fault));
@@ -73,7 +73,7 @@ pub(crate) fn judge_all<X: IndexSource>(
         → ShowsLatest hash (X.index_of source.now) nonce (table_of tree.now) root registry
         → ArePendingRecords hash (X.index_of source.now) bound pending.old.records.items pending.old.numbers
         → IsJudgedFaultAfter (X.index_of source.now) registry bound (operations ops.items) fault) }
-    ensures kept { OnErr result ((hash : Octets → Octets) (bound : List Registered)
+    ensures retained { OnErr result ((hash : Octets → Octets) (bound : List Registered)
         → ArePendingRecords hash (X.index_of source.now) bound pending.old.records.items pending.old.numbers
         → ArePendingRecords hash (X.index_of source.now) bound pending.new.records.items pending.new.numbers) }
 {
@@ -119,7 +119,7 @@ pub(crate) fn judge_copies<X: IndexSource>(
         → ShowsLatest hash (X.index_of source.now) nonce (table_of tree.now) root registry
         → ArePendingRecords hash (X.index_of source.now) bound pending.old.records.items pending.old.numbers
         → IsJudgedFaultAfter (X.index_of source.now) registry bound (operations ops.now) fault) }
-    ensures kept { OnErr result ((hash : Octets → Octets) (bound : List Registered)
+    ensures retained { OnErr result ((hash : Octets → Octets) (bound : List Registered)
         → ArePendingRecords hash (X.index_of source.now) bound pending.old.records.items pending.old.numbers
         → ArePendingRecords hash (X.index_of source.now) bound pending.new.records.items pending.new.numbers) }
 {

@@ -12,7 +12,7 @@ ghost use Rattle.coniks_directory.specs.Chain.{IsChainOf, heads_of};
 ghost use Rattle.coniks_directory.specs.History.{AreRising, Shown, latest_registry, numbers_of, root_at, shown_at};
 ghost use Rattle.coniks_directory.specs.Lookups.{IsAcceptedAt, IsFound};
 ghost use Rattle.coniks_directory.specs.Nodes.{epoch_nodes};
-ghost use Rattle.coniks_directory.specs.Restored.{Restores, restored_epoch, said_before};
+ghost use Rattle.coniks_directory.specs.Restored.{Restores, restored_epoch, stated_before};
 ghost use Rattle.coniks_directory.specs.Runs.{AreAccepted, AreAcceptedFrom, Batch, IsPreparedOf, Run, Start, begins_after, defined, epochs_from, policy_of, restoring};
 ghost use Rattle.coniks_directory.specs.State.{State, Whole, history_of};
 ghost use Rattle.coniks_directory.specs.Supplied.{AgreeOn};
@@ -179,7 +179,7 @@ pub fn restored_directories_agree()
         → defined start batches ≡ earlier ++ shown ∷ [] → IsAlikeEpoch shown (restored_epoch entry ops)
         → (rest : List Shown) × (history_of s ≡ earlier ++ rest) × AreAlikeEpochs rest (history_of r) }
     ensures chains { (hash : Octets → Octets) (verdict : Octets → Octets → Bool) (earlier more : List Entry) (entry : Entry)
-        → GoodChain hash verdict (earlier ++ entry ∷ []) → Continues hash verdict (Some (said_before entry)) (entry ∷ more)
+        → GoodChain hash verdict (earlier ++ entry ∷ []) → Continues hash verdict (Some (stated_before entry)) (entry ∷ more)
         → GoodChain hash verdict (earlier ++ entry ∷ more) }
     ensures first { (hash : Octets → Octets) (verdict : Octets → Octets → Bool) (entry : Entry) → IsWellFormed entry.body → entry.body.t_prev ≡ 0
         → verdict (body_bytes entry.body) entry.signature.0 ≡ true → GoodChain hash verdict (entry ∷ []) }

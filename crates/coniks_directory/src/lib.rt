@@ -4,8 +4,8 @@
 //! CONIKS, USENIX Security 2015, sections 3 and 4).
 //!
 //! `prepare` checks a batch of operations and builds its epoch's tree with several worker threads, and only reads the
-//! directory. `install` installs the update. It allocates all memory before it asks for the signature, and nothing can
-//! fail after that. Every epoch is kept: `lookup`, `root_at` and `chain` return what was installed for an epoch.
+//! directory. `install` installs the update. It allocates all memory before it requests the signature, and nothing can
+//! fail after that. Every epoch is retained: `lookup`, `root_at` and `chain` return what was installed for an epoch.
 //! `prepare_with` rotates the nonce, and rehashes the tree under the new nonce. `Restoring` restores a directory from an
 //! entry and the bindings at its epoch. It continues the same chain, without the epochs before.
 //!
@@ -31,7 +31,7 @@
 //! `library_example` contains the whole program:
 //!
 //! ```rust
-//! let proof = provider.directory.lookup(epoch, asked)?;
+//! let proof = provider.directory.lookup(epoch, requested)?;
 //! let Some(root) = provider.directory.root_at(epoch) else {
 //!     bail!("there is no epoch {epoch}");
 //! };

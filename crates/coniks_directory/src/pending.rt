@@ -76,7 +76,7 @@ impl PendingRecords {
     /// Adds the record of the next operation, whose index has none. After an error nothing has changed.
     pub(crate) fn add(&mut self, made: Record) -> Result<(), AllocError>
         ensures records { OnOk result (self.new.records.items ≡ self.old.records.items ++ made ∷ []) }
-        ensures kept { OnErr result (IsSamePending self.old self.new) }
+        ensures retained { OnErr result (IsSamePending self.old self.new) }
         ensures pending { OnOk result ((hash index_of : Octets → Octets) (bound : List Registered)
             → ArePendingRecords hash index_of bound self.old.records.items self.old.numbers
             → IsPendingRecord index_of made → IsFree index_of bound made.index.0

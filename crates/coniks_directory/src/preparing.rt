@@ -34,7 +34,7 @@ pub(crate) struct Origin<'a, H: Hash32, X: IndexSource> {
     pub(crate) alloc: Global,
     pub(crate) h: &'a H,
     pub(crate) source: &'a X,
-    pub(crate) held: &'a DirectoryState,
+    pub(crate) stored: &'a DirectoryState,
 }
 
 /// The way in which an epoch's tree is built: the worker threads and the split depth, and the gate before each job.
@@ -68,7 +68,7 @@ fn nonce_after(new_nonce: Option<Nonce>, latest: Nonce) -> Nonce
 /// Returns the part of the checked operations.
 ///
 /// It is the map under the root, or the empty map if there is none, overwritten by their changes. If it is made anew,
-/// nothing of the root is kept.
+/// nothing of the root is retained.
 pub(crate) fn part_of<H: Hash32 + Sync, X: IndexSource, G: Gate + Sync, R: Threads + Sync>(
     build: &Build<'_, G, R>,
     origin: &Origin<'_, H, X>,
@@ -78,24 +78,24 @@ pub(crate) fn part_of<H: Hash32 + Sync, X: IndexSource, G: Gate + Sync, R: Threa
     nonce: &Nonce,
 ) -> Result<Part, OutOfMemory>
     requires numbered { All (λ n. n < length pending.now.records.items) (values pending.now.numbers) }
-    requires root { IfSome root (λ r. r.0 < length origin.now.held.now.tree.nodes) }
+    requires root { IfSome root (λ r. r.0 < length origin.now.stored.now.tree.nodes) }
     ensures { IfOk result (λ part. (index_of : Octets → Octets) (latest : Octets) (registry : Registry) (ops : List Operation)
         → (is_anew ≡ false → latest ≡ nonce.now.0)
-        → ShowsLatest (H.digest_of origin.now.h.now) index_of latest (table_of origin.now.held.now.tree) root registry
+        → ShowsLatest (H.digest_of origin.now.h.now) index_of latest (table_of origin.now.stored.now.tree) root registry
         → ArePendingRecords (H.digest_of origin.now.h.now) index_of (map bound_by ops) pending.now.records.items pending.now.numbers
         → AreCommitted (H.digest_of origin.now.h.now) pending.now.records.items → first_fault index_of registry ops ≡ None
         → IsBuilt (H.digest_of origin.now.h.now) index_of nonce.now.0
-        (table_of origin.now.held.now.tree) root registry ops is_anew part pending.now.records.items) }
+        (table_of origin.now.stored.now.tree) root registry ops is_anew part pending.now.records.items) }
 {
-    let Origin { alloc, held, .. } = *origin;
-    let changes = changes_of(alloc, held.tree.records(), pending)?;
-    let growth = growth_of(alloc, &held.tree, root, is_anew, changes)?;
+    let Origin { alloc, stored, .. } = *origin;
+    let changes = changes_of(alloc, stored.tree.records(), pending)?;
+    let growth = growth_of(alloc, &stored.tree, root, is_anew, changes)?;
     Ok(coniks_threads::build(
         build.rt,
         alloc,
         origin.h,
         nonce,
-        &held.tree,
+        &stored.tree,
         growth.root,
         &growth.changes,
         build.parallelism.depth(),
@@ -106,26 +106,26 @@ pub(crate) fn part_of<H: Hash32 + Sync, X: IndexSource, G: Gate + Sync, R: Threa
 
 /// Returns the update of a part that was built of the records, or `OutOfMemory` if no memory could hold the part's nodes.
 pub(crate) fn update_of(
-    held: &DirectoryState,
+    stored: &DirectoryState,
     version: u8,
     nonce: Nonce,
     part: Part,
     pending: PendingRecords,
 ) -> Result<Prepared, OutOfMemory>
-    requires fits { Fits (length held.now.tree.nodes) 0 part }
-    ensures base { IfOk result (λ p. p.base ≡ length (state_of held.now).epochs) }
+    requires fits { Fits (length stored.now.tree.nodes) 0 part }
+    ensures base { IfOk result (λ p. p.base ≡ length (state_of stored.now).epochs) }
     ensures version { IfOk result (λ p. p.version ≡ version) }
     ensures nonce { IfOk result (λ p. p.nonce ≡ nonce) }
     ensures part { IfOk result (λ p. p.part ≡ part) }
     ensures records { IfOk result (λ p. p.records ≡ pending.records) }
 {
-    let new_nodes = held.tree.new_nodes(&part);
+    let new_nodes = stored.tree.new_nodes(&part);
     if new_nodes == usize::MAX {
         return Err(OutOfMemory);
     }
     let PendingRecords { records, .. } = pending;
     Ok(Prepared {
-        base: held.count(),
+        base: stored.count(),
         version,
         nonce,
         part,
@@ -145,18 +145,18 @@ fn checked<H: Hash32 + Sync, X: IndexSource, G: Gate + Sync, R: Threads + Sync>(
     root: Option<Root>,
     ops: Vec<Op>,
 ) -> Result<PendingRecords, BatchFault>
-    requires root { IfSome root (λ r. r.0 < length origin.now.held.now.tree.nodes) }
+    requires root { IfSome root (λ r. r.0 < length origin.now.stored.now.tree.nodes) }
     ensures pending { IfOk result (λ pending. ArePendingRecords (H.digest_of origin.now.h.now)
         (X.index_of origin.now.source.now) (map bound_by (operations ops.items)) pending.records.items pending.numbers) }
     ensures committed { IfOk result (λ pending. AreCommitted (H.digest_of origin.now.h.now) pending.records.items) }
     ensures faultless { OnOk result ((nonce : Octets) (registry : Registry)
-        → ShowsLatest (H.digest_of origin.now.h.now) (X.index_of origin.now.source.now) nonce (table_of origin.now.held.now.tree) root registry
+        → ShowsLatest (H.digest_of origin.now.h.now) (X.index_of origin.now.source.now) nonce (table_of origin.now.stored.now.tree) root registry
         → first_fault (X.index_of origin.now.source.now) registry (operations ops.items) ≡ None) }
     ensures fault { IfErr result (λ fault. (nonce : Octets) (registry : Registry)
-        → ShowsLatest (H.digest_of origin.now.h.now) (X.index_of origin.now.source.now) nonce (table_of origin.now.held.now.tree) root registry
+        → ShowsLatest (H.digest_of origin.now.h.now) (X.index_of origin.now.source.now) nonce (table_of origin.now.stored.now.tree) root registry
         → IsJudgedFault (X.index_of origin.now.source.now) registry (operations ops.items) fault) }
 {
-    let mut pending = judged(origin.alloc, origin.source, &origin.held.tree, root, ops)?;
+    let mut pending = judged(origin.alloc, origin.source, &origin.stored.tree, root, ops)?;
     pending.commit_records(build, origin.h);
     Ok(pending)
 }
@@ -170,23 +170,23 @@ pub(crate) fn update_on<H: Hash32 + Sync, X: IndexSource, G: Gate + Sync, R: Thr
     new_nonce: Option<Nonce>,
     ops: Vec<Op>,
 ) -> Result<Prepared, BatchFault>
-    requires whole { Whole (H.digest_of origin.now.h.now) (X.index_of origin.now.source.now) (state_of origin.now.held.now) }
+    requires whole { Whole (H.digest_of origin.now.h.now) (X.index_of origin.now.source.now) (state_of origin.now.stored.now) }
     ensures update { IfOk result (IsUpdateBy (H.digest_of origin.now.h.now)
-        (X.index_of origin.now.source.now) (state_of origin.now.held.now) (nonce_bytes new_nonce) ops.items) }
+        (X.index_of origin.now.source.now) (state_of origin.now.stored.now) (nonce_bytes new_nonce) ops.items) }
     ensures faultless { OnOk result
-        (first_fault (X.index_of origin.now.source.now) (latest_registry (history_of (state_of origin.now.held.now))) (operations ops.items) ≡ None) }
+        (first_fault (X.index_of origin.now.source.now) (latest_registry (history_of (state_of origin.now.stored.now))) (operations ops.items) ≡ None) }
     ensures fault { IfErr result (IsJudgedFault (X.index_of origin.now.source.now)
-        (latest_registry (history_of (state_of origin.now.held.now))) (operations ops.items)) }
+        (latest_registry (history_of (state_of origin.now.stored.now))) (operations ops.items)) }
 {
-    let held = origin.held;
-    let root = held.latest_root();
-    let version = version_after(new_nonce, held.latest_version());
-    let nonce = nonce_after(new_nonce, held.latest_nonce());
+    let stored = origin.stored;
+    let root = stored.latest_root();
+    let version = version_after(new_nonce, stored.latest_version());
+    let nonce = nonce_after(new_nonce, stored.latest_nonce());
     let pending = checked(build, origin, root, ops)?;
     let Ok(part) = part_of(build, origin, &pending, root, new_nonce.is_some(), &nonce) else {
         return Err(BatchFault::OutOfMemory);
     };
-    match update_of(held, version, nonce, part, pending) {
+    match update_of(stored, version, nonce, part, pending) {
         Ok(update) => Ok(update),
         Err(_) => Err(BatchFault::OutOfMemory),
     }

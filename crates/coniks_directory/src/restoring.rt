@@ -8,7 +8,7 @@ ghost use Rattle.coniks_proof.specs.Registry.{root_of};
 ghost use Rattle.coniks_tree.specs.Parts.{Fits, Placed};
 ghost use Rattle.coniks_directory.specs.Installed.{IsFirst};
 ghost use Rattle.coniks_directory.specs.Nodes.{epoch_nodes};
-ghost use Rattle.coniks_directory.specs.Restored.{IsEntryFault, IsRestorable, IsRestoreFault, IsRestoring, Restores, registrations, said_before};
+ghost use Rattle.coniks_directory.specs.Restored.{IsEntryFault, IsRestorable, IsRestoreFault, IsRestoring, Restores, registrations, stated_before};
 ghost use Rattle.coniks_directory.specs.State.{IsDirectory, IsLinked, Whole, opened, state_of};
 ghost use Rattle.coniks_directory.specs.Updates.{IsUpdate, nodes_added, registry_after};
 
@@ -60,8 +60,8 @@ pub(crate) fn check_entry(entry: &Entry) -> Result<(), RestoreFault>
 }
 
 /// Returns what an entry says of the one before it.
-fn said_before(entry: &Entry) -> AuditorState
-    ensures { result ≡ said_before entry.now }
+fn stated_before(entry: &Entry) -> AuditorState
+    ensures { result ≡ stated_before entry.now }
 {
     AuditorState {
         t: entry.body.t_prev,
@@ -79,50 +79,50 @@ fn first_update<H: Hash32 + Sync, X: IndexSource, G: Gate + Sync, R: Threads + S
     mut pending: PendingRecords,
 ) -> Result<Prepared, OutOfMemory>
     requires restoring { IsRestoring (H.digest_of origin.now.h.now) (X.index_of origin.now.source.now)
-        entry.now (state_of origin.now.held.now) pending.records.items pending.numbers }
-    ensures update { IfOk result (IsUpdate (H.digest_of origin.now.h.now) (X.index_of origin.now.source.now) (state_of origin.now.held.now)) }
+        entry.now (state_of origin.now.stored.now) pending.records.items pending.numbers }
+    ensures update { IfOk result (IsUpdate (H.digest_of origin.now.h.now) (X.index_of origin.now.source.now) (state_of origin.now.stored.now)) }
     ensures version { IfOk result (λ p. p.version ≡ entry.now.body.version) }
     ensures nonce { IfOk result (λ p. p.nonce ≡ entry.now.body.nonce) }
-    ensures registry { IfOk result (λ p. registry_after (state_of origin.now.held.now) p ≡ after [] (registrations pending.records.items)) }
+    ensures registry { IfOk result (λ p. registry_after (state_of origin.now.stored.now) p ≡ after [] (registrations pending.records.items)) }
     ensures nodes { IfOk result (λ p. nodes_added p ≡ epoch_nodes (X.index_of origin.now.source.now) [] None (registrations pending.records.items)) }
 {
     let nonce = entry.body.nonce;
     pending.commit_records(build, origin.h);
     let part = part_of(build, origin, &pending, None, false, &nonce)?;
-    let update = update_of(origin.held, entry.body.version, nonce, part, pending)?;
+    let update = update_of(origin.stored, entry.body.version, nonce, part, pending)?;
     Ok(update)
 }
 
 /// Returns whether the tree that an update leaves has this root.
-fn has_root<H: Hash32>(held: &DirectoryState, h: &H, update: &Prepared, root: &Digest) -> bool
-    requires { Fits (length held.now.tree.nodes) 0 update.now.part }
-    ensures same { result ≡ true → (index_of : Octets → Octets) → IsUpdate (H.digest_of h.now) index_of (state_of held.now) update.now
-        → root.now.0 ≡ root_of (H.digest_of h.now) index_of update.now.nonce.0 (registry_after (state_of held.now) update.now) }
-    ensures other { result ≡ false → (index_of : Octets → Octets) → IsUpdate (H.digest_of h.now) index_of (state_of held.now) update.now
-        → root.now.0 ≢ root_of (H.digest_of h.now) index_of update.now.nonce.0 (registry_after (state_of held.now) update.now) }
+fn has_root<H: Hash32>(stored: &DirectoryState, h: &H, update: &Prepared, root: &Digest) -> bool
+    requires { Fits (length stored.now.tree.nodes) 0 update.now.part }
+    ensures same { result ≡ true → (index_of : Octets → Octets) → IsUpdate (H.digest_of h.now) index_of (state_of stored.now) update.now
+        → root.now.0 ≡ root_of (H.digest_of h.now) index_of update.now.nonce.0 (registry_after (state_of stored.now) update.now) }
+    ensures other { result ≡ false → (index_of : Octets → Octets) → IsUpdate (H.digest_of h.now) index_of (state_of stored.now) update.now
+        → root.now.0 ≢ root_of (H.digest_of h.now) index_of update.now.nonce.0 (registry_after (state_of stored.now) update.now) }
 {
-    held.tree.part_hash(h, &update.nonce, &update.part).0 == root.0
+    stored.tree.part_hash(h, &update.nonce, &update.part).0 == root.0
 }
 
 /// Attaches an update to the state of `open`, and adds this entry, which follows what it says of the one before it.
 fn enter_first<H: Hash32>(
-    held: &mut DirectoryState,
+    stored: &mut DirectoryState,
     h: &H,
     update: Prepared,
     entry: Entry,
 ) -> Result<(), OutOfMemory>
-    requires fits { Fits (length held.old.tree.nodes) 0 update.part }
-    requires placed { Placed (held.old.tree.records ++ update.records.items) update.part }
-    ensures linked { OnOk result (IsLinked (H.digest_of h.now) held.new) }
-    ensures nodes { OnOk result (length held.new.tree.nodes ≡ length held.old.tree.nodes + nodes_added update) }
-    ensures restored { OnOk result ((index_of : Octets → Octets) (ops : List Operation) → state_of held.old ≡ opened entry.body.nonce.0 entry.body.policy
-        → IsUpdate (H.digest_of h.now) index_of (state_of held.old) update → IsFirst (H.digest_of h.now) index_of (state_of held.old) update ops entry
-        → Whole (H.digest_of h.now) index_of (state_of held.new) × Restores entry ops (state_of held.new)) }
+    requires fits { Fits (length stored.old.tree.nodes) 0 update.part }
+    requires placed { Placed (stored.old.tree.records ++ update.records.items) update.part }
+    ensures linked { OnOk result (IsLinked (H.digest_of h.now) stored.new) }
+    ensures nodes { OnOk result (length stored.new.tree.nodes ≡ length stored.old.tree.nodes + nodes_added update) }
+    ensures restored { OnOk result ((index_of : Octets → Octets) (ops : List Operation) → state_of stored.old ≡ opened entry.body.nonce.0 entry.body.policy
+        → IsUpdate (H.digest_of h.now) index_of (state_of stored.old) update → IsFirst (H.digest_of h.now) index_of (state_of stored.old) update ops entry
+        → Whole (H.digest_of h.now) index_of (state_of stored.new) × Restores entry ops (state_of stored.new)) }
 {
-    make_room(held, &update)?;
+    make_room(stored, &update)?;
     let t = entry.body.t;
-    held.before = Some(said_before(&entry));
-    enter(held, h, update, t, entry, link(h, &entry));
+    stored.before = Some(stated_before(&entry));
+    enter(stored, h, update, t, entry, link(h, &entry));
     Ok(())
 }
 
@@ -135,11 +135,11 @@ pub(crate) fn restored<H: Hash32 + Sync, X: IndexSource, G: Gate + Sync, R: Thre
     h: &H,
     source: &X,
     entry: Entry,
-    mut held: DirectoryState,
+    mut stored: DirectoryState,
     pending: PendingRecords,
 ) -> Result<DirectoryState, RestoreFault>
-    requires { IsRestoring (H.digest_of h.now) (X.index_of source.now) entry (state_of held) pending.records.items pending.numbers }
-    ensures kept { IfOk result (λ later. IsDirectory (H.digest_of h.now) (X.index_of source.now) later) }
+    requires { IsRestoring (H.digest_of h.now) (X.index_of source.now) entry (state_of stored) pending.records.items pending.numbers }
+    ensures retained { IfOk result (λ later. IsDirectory (H.digest_of h.now) (X.index_of source.now) later) }
     ensures restored { IfOk result (λ later. Restores entry (registrations pending.records.items) (state_of later)) }
     ensures nodes { IfOk result (λ later. length (state_of later).nodes ≡ epoch_nodes (X.index_of source.now) [] None (registrations pending.records.items)) }
     ensures accepted { OnOk result (IsRestorable (H.digest_of h.now) (X.index_of source.now)
@@ -151,16 +151,16 @@ pub(crate) fn restored<H: Hash32 + Sync, X: IndexSource, G: Gate + Sync, R: Thre
         alloc,
         h,
         source,
-        held: &held,
+        stored: &stored,
     };
     let Ok(update) = first_update(build, &origin, &entry, pending) else {
         return Err(RestoreFault::OutOfMemory);
     };
-    if !has_root(&held, h, &update, &entry.body.root) {
+    if !has_root(&stored, h, &update, &entry.body.root) {
         return Err(RestoreFault::RootDiffers);
     }
-    match enter_first(&mut held, h, update, entry) {
-        Ok(()) => Ok(held),
+    match enter_first(&mut stored, h, update, entry) {
+        Ok(()) => Ok(stored),
         Err(_) => Err(RestoreFault::OutOfMemory),
     }
 }

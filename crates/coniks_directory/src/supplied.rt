@@ -98,7 +98,7 @@ impl SuppliedIndices {
     ///
     /// `AllocError` if an allocation fails.
     pub(crate) fn supply_first(&mut self, name: &[u8], index: Index) -> Result<(), AllocError>
-        ensures kept { OnOk result (is_supplied self.old name.now ≡ true → self.new ≡ self.old) }
+        ensures retained { OnOk result (is_supplied self.old name.now ≡ true → self.new ≡ self.old) }
         ensures put { OnOk result (is_supplied self.old name.now ≡ false → self.new ≡ put_index self.old name.now index.0) }
     {
         if self.has(name) {

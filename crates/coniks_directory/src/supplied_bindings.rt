@@ -84,7 +84,7 @@ pub(crate) fn judge_bindings(
     ensures fault { IfErr result (λ fault. (hash : Octets → Octets) (bound : List Registered)
         → ArePendingRecords hash (supplied_index source.now) bound pending.old.records.items pending.old.numbers
         → IsJudgedFaultAfter (binding_index (supplied_index source.now) bound batch) [] bound (operations batch.bindings.items) fault) }
-    ensures kept { OnErr result ((hash : Octets → Octets) (bound : List Registered)
+    ensures retained { OnErr result ((hash : Octets → Octets) (bound : List Registered)
         → ArePendingRecords hash (supplied_index source.now) bound pending.old.records.items pending.old.numbers
         → ArePendingRecords hash (supplied_index source.now) bound pending.new.records.items pending.new.numbers) }
 {

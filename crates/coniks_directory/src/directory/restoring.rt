@@ -42,7 +42,7 @@ pub struct Restoring<H: Hash32, X: IndexSource> {
     h: H,
     source: X,
     entry: Entry,
-    held: DirectoryState,
+    stored: DirectoryState,
     pending: PendingRecords,
 }
 
@@ -54,7 +54,7 @@ impl<H: Hash32, X: IndexSource> Model for Restoring<H, X> {
 
     ghost view = { λ r. record { hash = r.h; index = r.source; entry = r.entry; ops = registrations r.pending.records.items } };
 
-    ghost invariant = { λ r. IsRestoring (H.digest_of r.h) (X.index_of r.source) r.entry (state_of r.held) r.pending.records.items r.pending.numbers };
+    ghost invariant = { λ r. IsRestoring (H.digest_of r.h) (X.index_of r.source) r.entry (state_of r.stored) r.pending.records.items r.pending.numbers };
 }
 
 impl<H: Hash32 + Drop, X: IndexSource + Drop> Restoring<H, X> {
@@ -77,13 +77,13 @@ impl<H: Hash32 + Drop, X: IndexSource + Drop> Restoring<H, X> {
         let Ok(pending) = PendingRecords::new(alloc, 0) else {
             return Err(RestoreFault::OutOfMemory);
         };
-        let held = DirectoryState::new(alloc, entry.body.nonce, entry.body.policy);
+        let stored = DirectoryState::new(alloc, entry.body.nonce, entry.body.policy);
         Ok(Restoring {
             alloc,
             h,
             source,
             entry,
-            held,
+            stored,
             pending,
         })
     }
@@ -102,7 +102,7 @@ impl<H: Hash32, X: IndexSource> Restoring<H, X> {
         ensures refused { IfErr result (IsJudgedFaultAfter (X.index_of self.old.index) [] (map bound_by self.old.ops) (operations bindings.now)) }
         ensures unchanged { OnErr result (self.new ≡ self.old) }
     {
-        let (alloc, tree) = (self.alloc, &self.held.tree);
+        let (alloc, tree) = (self.alloc, &self.stored.tree);
         judge_copies(alloc, &self.source, tree, None, &mut self.pending, bindings)?;
         Ok(())
     }
@@ -141,7 +141,7 @@ impl<H: Hash32> Restoring<H, SuppliedIndices> {
         ensures refused { IfErr result (IsJudgedFaultAfter (binding_index (supplied_index self.old.index) (map bound_by self.old.ops) batch)
             [] (map bound_by self.old.ops) (operations batch.bindings.items)) }
         ensures unchanged { OnErr result (self.new.ops ≡ self.old.ops) }
-        ensures kept { OnErr result (AgreeOn (supplied_index self.old.index) (supplied_index self.new.index) (map bound_by self.old.ops)) }
+        ensures retained { OnErr result (AgreeOn (supplied_index self.old.index) (supplied_index self.new.index) (map bound_by self.old.ops)) }
         ensures stored { OnErr result ((n : ℕ) × (self.new.index ≡ put_indices self.old.index
             (take n (indices_by (binding_index (supplied_index self.old.index) (map bound_by self.old.ops) batch) (operations batch.bindings.items))))) }
         ensures whole { (position : ℕ) (fault : OpFault) → result ≡ Err (At position fault) → self.new ≡ self.old }
@@ -150,7 +150,7 @@ impl<H: Hash32> Restoring<H, SuppliedIndices> {
         judge_bindings(
             self.alloc,
             &self.source,
-            &self.held.tree,
+            &self.stored.tree,
             &mut self.pending,
             batch,
         )?;
@@ -165,7 +165,7 @@ impl<H: Hash32 + Sync + Drop, X: IndexSource + Drop> Restoring<H, X> {
     /// Returns the directory.
     ///
     /// The bindings are those of the directory that had the entry, in any order. The tree is built as that of an update
-    /// is. The entry is kept as it is, with its signature, and nothing is signed. Before an `install` the entry's head,
+    /// is. The entry is retained as it is, with its signature, and nothing is signed. Before an `install` the entry's head,
     /// with `latest_link`, is published on the board.
     ///
     /// # Errors
@@ -199,15 +199,15 @@ impl<H: Hash32 + Sync + Drop, X: IndexSource + Drop> Restoring<H, X> {
             h,
             source,
             entry,
-            held,
+            stored,
             pending,
         } = self;
-        let held = restored(&build, alloc, &h, &source, entry, held, pending)?;
+        let stored = restored(&build, alloc, &h, &source, entry, stored, pending)?;
         Ok(Directory {
             alloc,
             h,
             source,
-            held,
+            stored,
         })
     }
 }

@@ -1,12 +1,10 @@
 //! A directory whose indices are supplied: lookups, batches and installs that come with the indices of names.
 
-ghost use Rattle.std.specs.Prelude.{◌≡◌, ◌≢◌, ◌≤◌, ◌++◌, ◌∷◌, [], List, None, Some, IfErr, IfOk, OnErr, OnOk, length, true, false};
+ghost use Rattle.std.specs.Prelude.{◌≡◌, ◌++◌, ◌∷◌, [], List, Some, IfErr, IfOk, OnErr, OnOk, length, true, false};
 ghost use Rattle.coniks_chain.specs.Entries.{link_preimage};
-ghost use Rattle.coniks_proof.specs.Octets.{Octets};
 ghost use Rattle.coniks_proof.specs.Registry.{has_name};
-ghost use Rattle.coniks_directory.specs.Batches.{IsAccepted, operations};
+ghost use Rattle.coniks_directory.specs.Batches.{operations};
 ghost use Rattle.coniks_directory.specs.Directories.{FindsAt, ShowsAt, entry, history, index_with, registry};
-ghost use Rattle.coniks_directory.specs.History.{nonce_bytes};
 ghost use Rattle.coniks_directory.specs.Supplied.{IsMissedAt, MaySupply};
 ghost use Rattle.coniks_directory.specs.Updates.{IsUpdateOf};
 
@@ -66,7 +64,7 @@ impl<H: Hash32, X: IndexSource> Directory<H, X> {
         ensures accepted { IfOk result (λ it. ShowsAt H.digest_of X.index_of self.now t name.now supplied.0 it.proof) }
         ensures missed { IfErr result (IsMissedAt (X.index_of self.now.index) (history self.now) (registry self.now) t name.now supplied.0) }
     {
-        let Some((epoch, signed)) = self.held.installed(t) else {
+        let Some((epoch, signed)) = self.stored.installed(t) else {
             return Err(LookupAtFault::UnknownEpoch);
         };
         if !is_name(name) {
@@ -75,7 +73,7 @@ impl<H: Hash32, X: IndexSource> Directory<H, X> {
         if self.has_other_index(name, &supplied) {
             return Err(LookupAtFault::OtherIndex);
         }
-        match self.held.tree.path(epoch.root, &supplied) {
+        match self.stored.tree.path(epoch.root, &supplied) {
             Ok(proof) => Ok(SignedProof {
                 entry: signed,
                 index: supplied,
@@ -129,8 +127,8 @@ impl<H: Hash32, X: SupplyIndex> Directory<H, X> {
 }
 
 impl<H: Hash32> Directory<H, SuppliedIndices> {
-    ghost use Rattle.std.specs.Prelude.{length};
-    ghost use Rattle.coniks_directory.specs.Installs.{AddsSupplied, Follows, IsNextResult, IsNextEntry, KeepsIndices, LeavesSupplied};
+    ghost use Rattle.coniks_directory.specs.Installs.{IsNextEntry};
+    ghost use Rattle.coniks_directory.specs.Supplying.{InstallsSupplied};
 
     /// Supplies the indices of an update's names, and installs the update with its entry, which has this link.
     #[tactic(auto, using(crate::proofs::FreshLemmas::growth))]
@@ -142,23 +140,19 @@ impl<H: Hash32> Directory<H, SuppliedIndices> {
     ) -> Result<(), (InstallFault, Prepared)>
         requires next { IsNextEntry H.digest_of self.old update entry }
         requires link { link.0 ≡ H.digest_of self.old.hash (link_preimage entry) }
-        ensures installed { OnOk result (AddsSupplied H.digest_of self.old self.new update entry.body.t entry) }
-        ensures outcome { IsNextResult self.old.state update entry.body.t result }
-        ensures same { KeepsIndices self.old self.new }
-        ensures kept { Follows H.digest_of self.old self.new entry }
-        ensures unchanged { IfErr result (λ r. LeavesSupplied update self.old self.new r.0) }
+        ensures { InstallsSupplied H.digest_of self.old self.new update entry result }
     {
         let t = entry.body.t;
-        if let Err(fault) = check_next(&self.held, update.base, t) {
+        if let Err(fault) = check_next(&self.stored, update.base, t) {
             return Err((fault, update));
         }
-        if make_room(&mut self.held, &update).is_err() {
+        if make_room(&mut self.stored, &update).is_err() {
             return Err((InstallFault::OutOfMemory, update));
         }
         if supply_all(&mut self.source, &update.records).is_err() {
             return Err((InstallFault::OutOfMemory, update));
         }
-        enter(&mut self.held, &self.h, update, t, entry, link);
+        enter(&mut self.stored, &self.h, update, t, entry, link);
         Ok(())
     }
 
@@ -184,11 +178,7 @@ impl<H: Hash32> Directory<H, SuppliedIndices> {
         entry: Entry,
     ) -> Result<(), (InstallFault, Prepared)>
         requires { IsNextEntry H.digest_of self.old update entry }
-        ensures installed { OnOk result (AddsSupplied H.digest_of self.old self.new update entry.body.t entry) }
-        ensures outcome { IsNextResult self.old.state update entry.body.t result }
-        ensures same { KeepsIndices self.old self.new }
-        ensures kept { Follows H.digest_of self.old self.new entry }
-        ensures unchanged { IfErr result (λ r. LeavesSupplied update self.old self.new r.0) }
+        ensures { InstallsSupplied H.digest_of self.old self.new update entry result }
     {
         let link = link(&self.h, &entry);
         self.install_next(update, entry, link)
@@ -196,7 +186,8 @@ impl<H: Hash32> Directory<H, SuppliedIndices> {
 }
 
 impl Directory<Sha256Hash, SuppliedIndices> {
-    ghost use Rattle.coniks_directory.specs.Installs.{AddsSupplied, Follows, IsNextResult, IsNextEntry, KeepsIndices, LeavesSupplied};
+    ghost use Rattle.coniks_directory.specs.Installs.{IsNextEntry};
+    ghost use Rattle.coniks_directory.specs.Supplying.{InstallsSupplied};
 
     /// Installs an update as `install_supplied` does, with an entry whose link was computed before. Hashes no entry.
     ///
@@ -209,11 +200,7 @@ impl Directory<Sha256Hash, SuppliedIndices> {
         entry: LinkedEntry,
     ) -> Result<(), (InstallFault, Prepared)>
         requires { IsNextEntry ⟦<Sha256Hash as Hash32>⟧.digest_of self.old update entry }
-        ensures installed { OnOk result (AddsSupplied ⟦<Sha256Hash as Hash32>⟧.digest_of self.old self.new update entry.body.t entry) }
-        ensures outcome { IsNextResult self.old.state update entry.body.t result }
-        ensures same { KeepsIndices self.old self.new }
-        ensures kept { Follows ⟦<Sha256Hash as Hash32>⟧.digest_of self.old self.new entry }
-        ensures unchanged { IfErr result (λ r. LeavesSupplied update self.old self.new r.0) }
+        ensures { InstallsSupplied ⟦<Sha256Hash as Hash32>⟧.digest_of self.old self.new update entry result }
     {
         let link = entry.link();
         self.install_next(update, entry.entry(), link)
@@ -225,7 +212,7 @@ impl<H: Hash32, X: IndexSource> Directory<H, X> {
     ghost use Rattle.std.specs.Str.{bytes_eq};
     ghost use Rattle.coniks_directory.specs.State.{Whole};
     ghost use Rattle.coniks_directory.specs.Supplied.{Supplied};
-    ghost use Rattle.coniks_directory.specs.SuppliedBatches.{IsEarliest, IsFresh, given_index, index_in, indexed, other_from};
+    ghost use Rattle.coniks_directory.specs.SuppliedBatches.{IsEarliest, IsFresh, given_index, indexed, other_from};
 
     /// Adds the index that comes with an operation, unless its name is registered or an earlier operation has the name.
     ///
@@ -290,8 +277,8 @@ impl<H: Hash32, X: IndexSource> Directory<H, X> {
         requires { Whole (H.digest_of self.now.hash) (given_index indices.now.fresh (X.index_of indices.now.source.now)) self.now.state }
         ensures { IsEarliest (given_index indices.now.fresh (X.index_of indices.now.source.now)) (registry self.now) (operations ops.items) place result }
     {
-        let root = self.held.latest_root();
-        let Err(fault) = judged(self.alloc, indices, &self.held.tree, root, ops) else {
+        let root = self.stored.latest_root();
+        let Err(fault) = judged(self.alloc, indices, &self.stored.tree, root, ops) else {
             return SuppliedBatchFault::OtherIndex { position: place };
         };
         match fault {
@@ -302,8 +289,7 @@ impl<H: Hash32, X: IndexSource> Directory<H, X> {
 }
 
 impl<H: Hash32 + Sync, X: IndexSource> Directory<H, X> {
-    ghost use Rattle.coniks_directory.specs.Built.{IsUpdateBy};
-    ghost use Rattle.coniks_directory.specs.SuppliedBatches.{IsSuppliedFault, IsSuppliedUpdate, IsWithin, indexed, indices_by, indices_of, supplied_fault};
+    ghost use Rattle.coniks_directory.specs.Supplying.{IsSuppliedResult};
 
     /// Prepares a batch whose operations come with the indices of their names, as `prepare` and `prepare_with` do.
     ///
@@ -328,18 +314,7 @@ impl<H: Hash32 + Sync, X: IndexSource> Directory<H, X> {
         gate: &G,
     ) -> Result<Prepared, SuppliedBatchFault>
         requires { length batch.ops.items ≡ length batch.indices.items }
-        ensures update { IfOk result
-            (IsUpdateBy (H.digest_of self.now.hash) (index_with X.index_of self.now batch.ops.items batch.indices.items) self.now.state (nonce_bytes batch.nonce) batch.ops.items) }
-        ensures installable { IfOk result
-            (λ p. IsSuppliedUpdate (H.digest_of self.now.hash) (X.index_of self.now.index) self.now.state p (index_with X.index_of self.now batch.ops.items batch.indices.items)) }
-        ensures indices { IfOk result (λ p. indices_of p ≡ indices_by (index_with X.index_of self.now batch.ops.items batch.indices.items) (operations batch.ops.items)) }
-        ensures accepted { OnOk result
-            (IsAccepted (index_with X.index_of self.now batch.ops.items batch.indices.items) (registry self.now) (operations batch.ops.items) parallelism.depth parallelism.workers) }
-        ensures within { OnOk result (IsWithin (indexed batch.ops.items batch.indices.items)) }
-        ensures faultless { OnOk result
-            (supplied_fault (X.index_of self.now.index) (registry self.now) (indexed batch.ops.items batch.indices.items) ≡ None) }
-        ensures refused { IfErr result
-            (IsSuppliedFault (X.index_of self.now.index) (registry self.now) (indexed batch.ops.items batch.indices.items)) }
+        ensures { IsSuppliedResult H.digest_of X.index_of self.now batch.nonce batch.ops.items batch.indices.items parallelism result }
     {
         let OwnedBatch {
             nonce,
@@ -363,21 +338,10 @@ impl<H: Hash32 + Sync, X: IndexSource> Directory<H, X> {
         supplied: &[Index],
     ) -> Result<Prepared, SuppliedBatchFault>
         requires { length ops.items ≡ length supplied.now }
-        ensures update { IfOk result
-            (IsUpdateBy (H.digest_of self.now.hash) (index_with X.index_of self.now ops.items supplied.now) self.now.state (nonce_bytes nonce) ops.items) }
-        ensures installable { IfOk result
-            (λ p. IsSuppliedUpdate (H.digest_of self.now.hash) (X.index_of self.now.index) self.now.state p (index_with X.index_of self.now ops.items supplied.now)) }
-        ensures indices { IfOk result (λ p. indices_of p ≡ indices_by (index_with X.index_of self.now ops.items supplied.now) (operations ops.items)) }
-        ensures accepted { OnOk result
-            (IsAccepted (index_with X.index_of self.now ops.items supplied.now) (registry self.now) (operations ops.items) build.now.parallelism.depth build.now.parallelism.workers) }
-        ensures within { OnOk result (IsWithin (indexed ops.items supplied.now)) }
-        ensures faultless { OnOk result
-            (supplied_fault (X.index_of self.now.index) (registry self.now) (indexed ops.items supplied.now) ≡ None) }
-        ensures refused { IfErr result
-            (IsSuppliedFault (X.index_of self.now.index) (registry self.now) (indexed ops.items supplied.now)) }
+        ensures { IsSuppliedResult H.digest_of X.index_of self.now nonce ops.items supplied.now build.now.parallelism result }
     {
         // Read for the contract alone.
-        let _ = &self.held;
+        let _ = &self.stored;
         if let Err(fault) = check_length(&ops) {
             return Err(SuppliedBatchFault::Batch(fault));
         }
@@ -391,7 +355,7 @@ impl<H: Hash32 + Sync, X: IndexSource> Directory<H, X> {
             alloc: self.alloc,
             h: &self.h,
             source: &indices,
-            held: &self.held,
+            stored: &self.stored,
         };
         match update_on(build, &origin, nonce, ops) {
             Ok(update) => Ok(update),

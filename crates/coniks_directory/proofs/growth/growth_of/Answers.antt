@@ -9,7 +9,7 @@ returns c =
     let changes = c.args.changes.items in
     let e = c.in_ok-overlay.ensures in
     record {
-      kept = λ off. absurd (let never = off in cc);
+      retained = λ off. absurd (let never = off in cc);
       none = λ on. refl;
       all = λ on by entries old map own ordered. overlaid-Lists listed _ entries (entries_in changes) (c.in_ok-entries.ensures.lists by entries old) map own ordered
           (rw (c.deref.ensures.value, c.deref-2.ensures.value, c.in_ok-all.ensures.items) at e.lists);

@@ -11,6 +11,6 @@ returns-in-Some-clause-signed g c = record {
   made = c.in-Some.ensures.made.0;
   refused = c.in-Some.ensures.made.1;
   last = c.in-Some.ensures.last c.make_body-body.result (search rules) (sym c.bytes.ensures);
-  asked = rw (← c.bytes.ensures) (search rules);
+  requested = rw (← c.bytes.ensures) (search rules);
   verdict = rw (← c.bytes.ensures) c.in-Some.ensures.verdict;
 }

@@ -79,21 +79,21 @@ returns-clause-faultless g c = λ hash nonce registry bound shown s.
     judged-all (g.X.IndexSource.index_of c.args.source.now) registry bound ops (length l.yielded) (past_in g (goal.at.returns-clause-faultless g c).In-None)
     (l.invariant.rest hash nonce registry bound shown s)
 
-pub returns-in-Ok-Some-clause-kept : goal.returns-in-Ok-Some-clause-kept
-returns-in-Ok-Some-clause-kept g c = λ hash bound s.
+pub returns-in-Ok-Some-clause-retained : goal.returns-in-Ok-Some-clause-retained
+returns-in-Ok-Some-clause-retained g c = λ hash bound s.
     let l = c.loop-position in
     let index_of = g.X.IndexSource.index_of c.args.source.now in
     let more = map bound_by (take (length l.yielded) (operations c.args.ops.items)) in
-    let same = c.judge_one.ensures.kept (λ none. let is = c.in-Ok-Some.is ∙ ap Ok c.in-Ok-Some.field-0-is in let never = sym is ∙ none in cc) in
+    let same = c.judge_one.ensures.retained (λ none. let is = c.in-Ok-Some.is ∙ ap Ok c.in-Ok-Some.field-0-is in let never = sym is ∙ none in cc) in
     let here = same_pending hash index_of (bound ++ more) _ _ _ _ same.records same.numbers (l.invariant.pending hash bound s) in
     rolled_back hash index_of bound more _ _ _ _ _ _ _ s here c.count-earlier.ensures c.truncate.ensures.records (c.truncate.ensures.pending hash index_of (bound ++ more) here)
 
-pub returns-in-Err-clause-kept : goal.returns-in-Err-clause-kept
-returns-in-Err-clause-kept g c = λ hash bound s.
+pub returns-in-Err-clause-retained : goal.returns-in-Err-clause-retained
+returns-in-Err-clause-retained g c = λ hash bound s.
     let l = c.loop-position in
     let index_of = g.X.IndexSource.index_of c.args.source.now in
     let more = map bound_by (take (length l.yielded) (operations c.args.ops.items)) in
-    let same = c.judge_one.ensures.kept (λ none. let is = c.in-Err.is in let never = sym is ∙ none in cc) in
+    let same = c.judge_one.ensures.retained (λ none. let is = c.in-Err.is in let never = sym is ∙ none in cc) in
     let here = same_pending hash index_of (bound ++ more) _ _ _ _ same.records same.numbers (l.invariant.pending hash bound s) in
     rolled_back hash index_of bound more _ _ _ _ _ _ _ s here c.count-earlier.ensures c.truncate-in-Err.ensures.records
     (c.truncate-in-Err.ensures.pending hash index_of (bound ++ more) here)

@@ -8,7 +8,7 @@ use Rattle.coniks_directory.proofs.preparing.part_of.Goals as goal
 pub returns : goal.returns
 returns g c = λ index_of latest registry ops under shown pending committed none.
     let hash = g.H.Hash32.digest_of c.args.origin.now.h.now in
-    let tree = c.args.origin.now.held.now.tree in
+    let tree = c.args.origin.now.stored.now.tree in
     let new = c.args.pending.now in
     let e = c.in_ok-build.ensures in
     let made = c.in_ok-changes.ensures hash index_of (map bound_by ops) pending in

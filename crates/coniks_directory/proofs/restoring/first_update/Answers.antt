@@ -21,7 +21,7 @@ part_of-requires-clause-numbered g c κs within =
     (c.commit_records.ensures.pending hash index_of (map registered_of c.args.pending.records.items) c.requires.restoring.pending)
 
 -- the part is that of the bindings on nothing
-built_in : (g : given.Over) (c : In_ok-part g) → (let s = state_of c.args.origin.now.held.now in
+built_in : (g : given.Over) (c : In_ok-part g) → (let s = state_of c.args.origin.now.stored.now in
     IsBuilt (g.H.Hash32.digest_of c.args.origin.now.h.now) (g.X.IndexSource.index_of c.args.origin.now.source.now) c.args.entry.now.body.nonce.0
     (table s.nodes s.records) None [] (registrations c.args.pending.records.items) false c.in_ok-part.part c.commit_records.new.self.records.items)
 built_in g c =
@@ -40,14 +40,14 @@ update_of-requires g c = record { fits = (built_in g c).fits }
 pub returns-clause-update : goal.returns-clause-update
 returns-clause-update g c =
     let e = c.in_ok-update.ensures in
-    (first_built (g.H.Hash32.digest_of c.args.origin.now.h.now) (g.X.IndexSource.index_of c.args.origin.now.source.now) (state_of c.args.origin.now.held.now)
+    (first_built (g.H.Hash32.digest_of c.args.origin.now.h.now) (g.X.IndexSource.index_of c.args.origin.now.source.now) (state_of c.args.origin.now.stored.now)
     c.args.entry.now c.in_ok-update.update (registrations c.args.pending.records.items) c.requires.restoring.opened c.requires.restoring.formed e.base e.version e.nonce
     (rw (e.nonce, e.part, e.records) (built_in g (goal.at.returns-clause-update g c).In_ok-part))).0
 
 pub returns-clause-registry : goal.returns-clause-registry
 returns-clause-registry g c =
     let e = c.in_ok-update.ensures in
-    (first_built (g.H.Hash32.digest_of c.args.origin.now.h.now) (g.X.IndexSource.index_of c.args.origin.now.source.now) (state_of c.args.origin.now.held.now)
+    (first_built (g.H.Hash32.digest_of c.args.origin.now.h.now) (g.X.IndexSource.index_of c.args.origin.now.source.now) (state_of c.args.origin.now.stored.now)
     c.args.entry.now c.in_ok-update.update (registrations c.args.pending.records.items) c.requires.restoring.opened c.requires.restoring.formed e.base e.version e.nonce
     (rw (e.nonce, e.part, e.records) (built_in g (goal.at.returns-clause-registry g c).In_ok-part))).1
 

@@ -31,16 +31,16 @@ returns-in_err-judge_all-clause-fault c =
     subst (λ (f : Octets → Octets). IsJudgedFaultAfter f [] bound ops c.in_err-judge_all.field-0.0) (fresh_in later hash bound s)
     (c.in_err-judge_all.ensures.fault hash [] [] bound refl (earlier later hash bound s)))
 
-pub returns-in_err-judge_all-clause-kept : goal.returns-in_err-judge_all-clause-kept
-returns-in_err-judge_all-clause-kept c =
+pub returns-in_err-judge_all-clause-retained : goal.returns-in_err-judge_all-clause-retained
+returns-in_err-judge_all-clause-retained c =
     let is : c.from_residual.result ≡ Err c.in_err-judge_all.field-0.0 = search rules in
     let index_of = supplied_index c.args.source.now in
-    let later = (goal.at.returns-in_err-judge_all-clause-kept c).After-judge_all in
+    let later = (goal.at.returns-in_err-judge_all-clause-retained c).After-judge_all in
     rw is (λ hash bound s.
     let f = binding_index index_of bound c.args.batch in
     pending_agree hash f index_of bound _ _ (agree_back index_of f bound (bound_agree index_of bound c.args.batch))
     (subst (λ (g : Octets → Octets). ArePendingRecords hash g bound c.judge_all.new.pending.records.items c.judge_all.new.pending.numbers) (fresh_in later hash bound s)
-    (c.in_err-judge_all.ensures.kept hash bound (earlier later hash bound s))))
+    (c.in_err-judge_all.ensures.retained hash bound (earlier later hash bound s))))
 
 pub returns-clause-pending : goal.returns-clause-pending
 returns-clause-pending c = λ hash bound s.

@@ -22,7 +22,7 @@ returns-in_default-page-clause-refused g c =
 
 pub bindings_of-requires : goal.bindings_of-requires
 bindings_of-requires g c =
-    let records = c.self.inside.held.tree.records in
+    let records = c.self.inside.stored.tree.records in
     subst (AllPlaced records) (sym c.deref.ensures.value) (c.in-Ok.ensures.placed records (λ k v at. at))
 
 pub returns-in-Ok-bindings_of-clause-page : goal.returns-in-Ok-bindings_of-clause-page
@@ -31,7 +31,7 @@ returns-in-Ok-bindings_of-clause-page g c =
     let hash = g.H.Hash32.digest_of d.h in
     let index_of = g.X.IndexSource.index_of d.source in
     let e = c.in-Some.epoch in
-    rw (← c.self.view_is) (paged hash index_of (state_of d.held) c.args.t e _ (c.in-Some.ensures hash index_of c.self.invariant.whole) c.args.after c.args.most
+    rw (← c.self.view_is) (paged hash index_of (state_of d.stored) c.args.t e _ (c.in-Some.ensures hash index_of c.self.invariant.whole) c.args.after c.args.most
     c.in-Ok.page.items c.in-Ok-bindings_of.bindings.items
     (λ entries shows. c.in-Ok.ensures.page (hashing hash e.nonce.0) entries shows) (rw c.deref.ensures.value at c.in-Ok-bindings_of.ensures))
 

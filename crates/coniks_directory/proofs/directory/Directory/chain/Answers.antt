@@ -10,4 +10,4 @@ returns-clause-under g c =
 pub returns-clause-names : goal.returns-clause-names
 returns-clause-names g c =
     let d = c.self.inside in
-    rw (← c.self.view_is) (all_own (g.H.Hash32.digest_of d.h) (g.X.IndexSource.index_of d.source) (state_of d.held) c.self.invariant.whole)
+    rw (← c.self.view_is) (all_own (g.H.Hash32.digest_of d.h) (g.X.IndexSource.index_of d.source) (state_of d.stored) c.self.invariant.whole)

@@ -38,7 +38,7 @@ pub returns-clause-indices : goal.returns-clause-indices
 returns-clause-indices g c =
     let d = c.self.inside in
     let index_of = g.X.IndexSource.index_of d.source in
-    let registry = latest_registry (history_of (state_of d.held)) in
+    let registry = latest_registry (history_of (state_of d.stored)) in
     let ops = c.args.ops.now in
     let indices = c.args.indices.now in
     let long = indexed_length ops indices c.requires in

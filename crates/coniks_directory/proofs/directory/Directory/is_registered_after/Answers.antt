@@ -8,10 +8,10 @@ returns-then-is_registered g c =
     let d = c.self.inside in
     let p = c.args.update.now in
     let name = c.args.name.now in
-    let there : has_name (latest_registry (history_of (state_of d.held))) name ≡ true = rw (← c.self.view_is) at (sym c.is_registered.ensures ∙ c.if-is_registered.true) in
+    let there : has_name (latest_registry (history_of (state_of d.stored))) name ≡ true = rw (← c.self.view_is) at (sym c.is_registered.ensures ∙ c.if-is_registered.true) in
     rw (← c.self.view_is)
     (c.if-is_registered.true
-    ∙ sym (leaves_name (g.H.Hash32.digest_of d.h) (g.X.IndexSource.index_of d.source) (state_of d.held)
+    ∙ sym (leaves_name (g.H.Hash32.digest_of d.h) (g.X.IndexSource.index_of d.source) (state_of d.stored)
     p name c.self.invariant.whole ∙ ap (λ v. v || has_name (map registered_of p.records.items) name) there))
 
 pub returns-else-is_registered : goal.returns-else-is_registered
@@ -22,5 +22,5 @@ returns-else-is_registered g c =
     let gone = rw (← c.self.view_is) at (sym c.is_registered.ensures ∙ c.if-is_registered.false) in
     rw (← c.self.view_is)
     (c.binds.ensures
-    ∙ sym (leaves_name (g.H.Hash32.digest_of d.h) (g.X.IndexSource.index_of d.source) (state_of d.held)
+    ∙ sym (leaves_name (g.H.Hash32.digest_of d.h) (g.X.IndexSource.index_of d.source) (state_of d.stored)
     p name c.self.invariant.whole ∙ ap (λ v. v || has_name (map registered_of p.records.items) name) gone))

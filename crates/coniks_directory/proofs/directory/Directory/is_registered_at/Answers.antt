@@ -12,6 +12,6 @@ returns g c =
     let d = c.self.inside in
     let hash = g.H.Hash32.digest_of d.h in
     let index_of = g.X.IndexSource.index_of d.source in
-    let registry = latest_registry (history_of (state_of d.held)) in
+    let registry = latest_registry (history_of (state_of d.stored)) in
     let holder = c.holder_at.ensures hash index_of _ registry ((c.latest_root-root.ensures hash index_of c.self.invariant.whole).shows _ refl) in
     rw (← c.self.view_is) (c.is_of.ensures index_of registry (subst (λ i. HolderIs index_of registry i c.holder_at.result) (rw (← c.self.view_is) at c.requires) holder))

@@ -12,7 +12,7 @@ pub returns-clause-of_last : goal.returns-clause-of_last
 returns-clause-of_last g c = λ earlier entry same.
     let d = c.self.inside in
     let hash = g.H.Hash32.digest_of d.h in
-    let before = (state_of d.held).before in
+    let before = (state_of d.stored).before in
     let is = rw (← c.self.view_is) at same in
     rw (← c.self.view_is)
     (c.self.invariant.linked

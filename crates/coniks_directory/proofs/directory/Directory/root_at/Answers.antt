@@ -14,7 +14,7 @@ returns-in-Some g c =
     let d = c.self.inside in
     let hash = g.H.Hash32.digest_of d.h in
     let found = c.in-Some.ensures hash (g.X.IndexSource.index_of d.source) c.self.invariant.whole in
-    rw (← c.self.view_is) (rooted hash (g.X.IndexSource.index_of d.source) (state_of d.held) c.args.t c.in-Some.epoch _ found c.node_hash.result.0
+    rw (← c.self.view_is) (rooted hash (g.X.IndexSource.index_of d.source) (state_of d.stored) c.args.t c.in-Some.epoch _ found c.node_hash.result.0
     (λ entries shows. c.node_hash.ensures (hashing hash c.in-Some.epoch.nonce.0) [] entries shows))
 
 pub returns-in-None : goal.returns-in-None

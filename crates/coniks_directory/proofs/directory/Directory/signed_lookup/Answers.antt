@@ -23,13 +23,13 @@ path-requires g c =
 
 -- the path is that of the name's index in the tree of the epoch's registry
 path_in : (g : given.Over) (c : goal.In-Ok g) → (let hash = g.H.Hash32.digest_of c.self.inside.h in let index_of = g.X.IndexSource.index_of c.self.inside.source in
-    IsPath (hashing hash c.in-Some.epoch.nonce.0) (entries_of hash index_of (shown_of c.self.inside.held.tree.records c.in-Some.epoch).registry) (index_of c.args.name.now) c.in-Ok.proof)
+    IsPath (hashing hash c.in-Some.epoch.nonce.0) (entries_of hash index_of (shown_of c.self.inside.stored.tree.records c.in-Some.epoch).registry) (index_of c.args.name.now) c.in-Ok.proof)
 path_in g c =
     let d = c.self.inside in
     let hash = g.H.Hash32.digest_of d.h in
     let index_of = g.X.IndexSource.index_of d.source in
     let e = c.in-Some.epoch in
-    rw (← c.index-index.ensures) (pathed hash index_of (state_of d.held) c.args.t e _ (c.in-Some.ensures hash index_of c.self.invariant.whole) c.index-index.result.0 c.in-Ok.proof
+    rw (← c.index-index.ensures) (pathed hash index_of (state_of d.stored) c.args.t e _ (c.in-Some.ensures hash index_of c.self.invariant.whole) c.index-index.result.0 c.in-Ok.proof
     (λ entries shows. c.in-Ok.ensures (hashing hash e.nonce.0) entries shows))
 
 pub returns-in-Ok-clause-entry : goal.returns-in-Ok-clause-entry
@@ -51,7 +51,7 @@ returns-in-Ok-clause-accepted g c =
     let d = c.self.inside in
     let index_of = g.X.IndexSource.index_of d.source in
     let found = c.in-Some.ensures (g.H.Hash32.digest_of d.h) index_of c.self.invariant.whole in
-    rw (← c.self.view_is) (accepted_there (g.H.Hash32.digest_of d.h) index_of (state_of d.held) c.args.t c.in-Some.epoch _ found c.args.name.now c.in-Ok.proof (c.if-not-is_length.ensures.holds refl)
+    rw (← c.self.view_is) (accepted_there (g.H.Hash32.digest_of d.h) index_of (state_of d.stored) c.args.t c.in-Some.epoch _ found c.args.name.now c.in-Ok.proof (c.if-not-is_length.ensures.holds refl)
     (path_in g c))
 
 pub returns-in-Ok-clause-checks : goal.returns-in-Ok-clause-checks
@@ -59,7 +59,7 @@ returns-in-Ok-clause-checks g c =
     let d = c.self.inside in
     let hash = g.H.Hash32.digest_of d.h in
     let index_of = g.X.IndexSource.index_of d.source in
-    let s = state_of d.held in
+    let s = state_of d.stored in
     let found = c.in-Some.ensures hash index_of c.self.invariant.whole in
     rw (← c.self.view_is) (accepted_under hash index_of s c.args.t c.in-Some.epoch _ found c.args.name.now _ refl c.index-index.ensures
     (accepted_there hash index_of s c.args.t c.in-Some.epoch _ found c.args.name.now c.in-Ok.proof (c.if-not-is_length.ensures.holds refl) (path_in g c)))

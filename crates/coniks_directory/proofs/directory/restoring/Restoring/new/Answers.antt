@@ -12,7 +12,7 @@ invariant_of-result g c =
     let s = c.in-Ok.ensures hash index_of in
     record {
       formed = c.in_ok-check_entry.ensures.formed;
-      opened = c.new-held.ensures.opened;
+      opened = c.new-stored.ensures.opened;
       pending = by_records hash index_of [] _ _ s;
       faultless = ap (λ (bs : List Registered). first_fault index_of [] (map registration bs)) s.binds;
     }
