@@ -15,5 +15,5 @@ says-of_lines P Q lines.OutOfMemory h = h
 -- a run over lines, as a run
 pub run_is : {S : Type 0} {answer : S → List ℕ → Answer S} {s : S} {io : Streams} (Boardless : Streams → Type 0) (result : Result Bool LineFault)
     → IsRunOf answer s (EndsBadly answer s) io result → IsRunOf answer s (λ io. Says (EndsBadly answer s io) (Boardless io)) io (of_run result)
-run_is {S} {answer} {s} {io} Boardless (Ok all) run = record { ok = run.ok; err = tt; all_of = run.all_of; part_of = λ input told. tt }
-run_is {S} {answer} {s} {io} Boardless (Err fault) run = record { ok = tt; err = says-of_lines (EndsBadly answer s io) (Boardless io) fault run.err; all_of = λ input told. tt; part_of = run.part_of }
+run_is {S} {answer} {s} {io} Boardless (Ok all) run = record { ok = run.ok; err = tt; all_of = run.all_of; part_of = λ input reported. tt }
+run_is {S} {answer} {s} {io} Boardless (Err fault) run = record { ok = tt; err = says-of_lines (EndsBadly answer s io) (Boardless io) fault run.err; all_of = λ input reported. tt; part_of = run.part_of }

@@ -7,11 +7,11 @@ use Rattle.coniks_programs.specs.declared.fault.RunFault.TheVariants.{Write, Out
 use Rattle.coniks_lines.specs.Runs.{Streams}
 use Rattle.coniks_programs.specs.Telling.{TellsPart, TellsWhole}
 
--- an error of `clap` of this kind is a text that was asked for
-abbrev pub is_asked_for : ErrorKind → Bool
-is_asked_for DisplayHelp = true
-is_asked_for DisplayVersion = true
-is_asked_for _ = false
+-- an error of `clap` of this kind is a text that was requested
+abbrev pub is_requested_for : ErrorKind → Bool
+is_requested_for DisplayHelp = true
+is_requested_for DisplayVersion = true
+is_requested_for _ = false
 
 -- nothing was read or written
 abbrev pub IsIdle : Streams → Type 0
@@ -22,7 +22,7 @@ pub record IsShown (io : Streams) : Type 0 where
   pub text : List ℕ
   pub some : text ≢ []
   pub unread : io.from' ≡ io.from
-  pub told : TellsWhole io.to text io.to'
+  pub reported : TellsWhole io.to text io.to'
 
 -- help or the version was not shown to its end
 abbrev pub IsCutOff : Streams → RunFault → Type 0

@@ -8,6 +8,8 @@ use Rattle.coniks_proof.specs.Octets.{Octets}
 use Rattle.coniks_directory.specs.Batches.{operation_of}
 use Rattle.coniks_directory.specs.declared.batch.Op.{Op}
 use Rattle.coniks_programs.specs.Members.{given, text_in, digits_in, base64_in}
+use Rattle.coniks_programs.specs.declared.operations.ReadList.{ReadList}
+use Rattle.coniks_programs.specs.declared.operations.ReadList.TheVariants.{Whole, BadElement}
 
 -- the kind that a text names
 abbrev pub kind_named : Octets → Option Kind
@@ -49,6 +51,6 @@ abbrev pub operations_in : Items → Result (List Operation) ℕ
 operations_in elements = operations_from 0 elements
 
 -- what was read, as the definitions of batches see it
-abbrev pub operations_read : Result (Vec Op Global) ℕ → Result (List Operation) ℕ
-operations_read (Ok ops) = Ok (map operation_of ops.items)
-operations_read (Err place) = Err place
+abbrev pub operations_read : ReadList (Vec Op Global) → Result (List Operation) ℕ
+operations_read (Whole ops) = Ok (map operation_of ops.items)
+operations_read (BadElement place) = Err place

@@ -32,7 +32,7 @@ other_in d =
     given (digits_in 32 (codes "index") d) (λ index.
     Some (Other (record { 0 = index }) (record { 0 = commitment }))))
 
--- the leaf of the asked index: `key` in base64, `name`, and `opening` in 64 digits
+-- the leaf of the requested index: `key` in base64, `name`, and `opening` in 64 digits
 abbrev pub here_in : Data → Option End
 here_in d =
     given (base64_in (codes "key") d) (λ key.

@@ -32,9 +32,9 @@ pub data Refusal : Type 0 where
   epoch_not_later : (latest : ℕ) → Refusal
   -- the board has no room for a further head
   board_full : Refusal
-  -- no epoch has exactly the number asked
+  -- no epoch has exactly the number requested
   unknown_epoch : Refusal
-  -- the name asked is empty or too long
+  -- the name requested is empty or too long
   bad_name_length : Refusal
 
 abbrev pub refusal_of : Reason → Refusal

@@ -1,7 +1,8 @@
 -- What several engines print for a line.
 use Rattle.std.specs.Prelude.{ℕ, codes}
 use Rattle.serde_json.specs.Data.{Data, string, number, unsigned, object, member, no_members}
-use Rattle.coniks_proof.specs.Batches.{Fault, name_length, key_length, name_twice, name_taken, name_unknown, index_clash}
+use Rattle.coniks_proof.specs.Batches as batches
+use Rattle.coniks_proof.specs.Batches.{Fault}
 use Rattle.coniks_proof.specs.Octets.{Octets}
 use Rattle.coniks_chain.specs.declared.entry.Entry.{Entry}
 use Rattle.coniks_chain.specs.Entries.{entry_bytes}
@@ -30,12 +31,12 @@ member_name named.Bindings = codes "bindings"
 -- the name of an operation's error
 abbrev pub fault_name : Fault → Octets
 -- formats.toml: faults
-fault_name name_length = codes "NameLength"
-fault_name key_length = codes "KeyLength"
-fault_name name_twice = codes "NameTwice"
-fault_name name_taken = codes "NameTaken"
-fault_name name_unknown = codes "NameUnknown"
-fault_name index_clash = codes "IndexClash"
+fault_name batches.name_length = codes "NameLength"
+fault_name batches.key_length = codes "KeyLength"
+fault_name batches.name_twice = codes "NameTwice"
+fault_name batches.name_taken = codes "NameTaken"
+fault_name batches.name_unknown = codes "NameUnknown"
+fault_name batches.index_clash = codes "IndexClash"
 
 -- formats.toml: end
 

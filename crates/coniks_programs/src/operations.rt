@@ -11,6 +11,15 @@ use coniks_proof::{Bytes, Opening};
 use serde_json::Value;
 use std::alloc::{AllocError, Global};
 
+/// The elements of a list, as they were read.
+#[derive(Drop)]
+pub enum ReadList<T> {
+    /// Each element was read.
+    Whole(T),
+    /// The element at this position is the first that is none of those that were requested.
+    BadElement(usize),
+}
+
 /// Reads the operations of the elements, or returns the position of the first element that is none.
 ///
 /// Such an element is not an object, or one of its members is missing, of another kind or of a wrong text. Any length is
@@ -19,17 +28,17 @@ use std::alloc::{AllocError, Global};
 /// # Errors
 ///
 /// `AllocError` if an allocation fails.
-pub fn read_ops(alloc: Global, list: &[Value]) -> Result<Result<Vec<Op>, usize>, AllocError>
+pub fn read_ops(alloc: Global, list: &[Value]) -> Result<ReadList<Vec<Op>>, AllocError>
     ensures { IfOk result (λ ops. operations_read ops ≡ operations_in (items_view list.now)) }
 {
     let mut found = Vec::with_capacity(alloc, list.len())?;
     for (place, element) in list.iter().enumerate() {
         match read_op(alloc, element)? {
             Some(op) => found.push(op)?,
-            None => return Ok(Err(place)),
+            None => return Ok(ReadList::BadElement(place)),
         }
     }
-    Ok(Ok(found))
+    Ok(ReadList::Whole(found))
 }
 
 /// Reads the operation of an element: `op`, and the members of `read_op_of`.

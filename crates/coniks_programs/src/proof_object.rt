@@ -105,7 +105,7 @@ fn other(value: &Value) -> Option<End>
     Some(End::Other { index, commitment })
 }
 
-/// Reads an end that shows the asked index's binding.
+/// Reads an end that shows the requested index's binding.
 fn here(alloc: Global, value: &Value) -> Result<Option<End>, AllocError>
     ensures { IfOk result (λ end. end ≡ here_in (view value.now)) }
 {

@@ -76,7 +76,7 @@ fn write_other_end(
     writer.end_object()
 }
 
-/// Writes the object of an end that shows the asked index's binding.
+/// Writes the object of an end that shows the requested index's binding.
 fn write_here_end(
     alloc: Global,
     name: &Bytes,

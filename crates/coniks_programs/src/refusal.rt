@@ -33,9 +33,9 @@ pub enum Refusal {
     EpochNotLater { latest: u64 },
     /// The board has no room for another head.
     BoardFull,
-    /// No epoch has exactly the number asked.
+    /// No epoch has exactly the number requested.
     UnknownEpoch,
-    /// The name asked is empty or too long.
+    /// The name requested is empty or too long.
     NameLength,
 }
 

@@ -17,7 +17,7 @@ use Rattle.coniks_programs.specs.Members.{object_in, text_in, number_in, array_i
 use Rattle.coniks_provider.specs.Answers.{ProviderOutcome, installed, is_accepted_line, not_abandoned, prepared, replay_differs}
 use Rattle.coniks_provider.specs.Claims.{Claim, agrees, claim_in, log_in}
 use Rattle.coniks_provider.specs.Lines.{batch_in}
-use Rattle.coniks_provider.specs.Logs.{AllAccepted, AreLines, AreStored, EndsIn, IsStored, Names, NoneWithdraws, after_lines, is_kept, replay_from}
+use Rattle.coniks_provider.specs.Logs.{AllAccepted, AreLines, AreStored, EndsIn, IsStored, Names, NoneWithdraws, after_lines, is_retained, replay_from}
 use Rattle.coniks_provider.specs.Replays.{check_named, command_turn, is_below, kind_in, log_after, log_turn, logged_turn, logging, named_by, replay_after, replay_answer, taken}
 use Rattle.coniks_provider.specs.declared.replay.kind.Kind.{Kind}
 use Rattle.coniks_provider.specs.declared.replay.kind.Kind.TheVariants as kind
@@ -25,7 +25,7 @@ use Rattle.coniks_provider.specs.declared.replay.log.Log.{Log}
 use Rattle.coniks_provider.specs.declared.replay.refusal.Named.TheVariants as named
 use Rattle.coniks_lines.specs.Machine.{state_after}
 use Rattle.std.proofs.lemmas.Bool.Decides.{nat_tests}
-use Rattle.coniks_provider.specs.Turns.{BatchLine, Claims, ProviderDirectory, Pending, ProviderTurn, ProviderState, Restore, nothing, restoring, serving}
+use Rattle.coniks_provider.specs.Turns.{BatchLine, Claims, ProviderDirectory, Pending, ProviderTurn, ProviderState, nothing, restoring, serving}
 use Rattle.coniks_provider.specs.Turns.{batch_read_turn, bindings_read_turn, body_refusal, claims_in, install_on, install_turn, installed_with, line_refusal, link_by, may_replace, pending_by}
 use Rattle.coniks_provider.specs.Turns.{prepare_on, prepare_turn, prepare_with, provider_command_turn, provider_open_turn, provider_refusal, restore_turn, restoring_turn, withdraw_turn}
 use Rattle.coniks_provider.specs.declared.operations.Elements.TheVariants.{Operations, Bindings}
@@ -210,7 +210,7 @@ Serves t = (after : ProviderDirectory) × (t.state ≡ serving after)
 
 -- a line that a log has no line for leaves the directory as it is
 abbrev Stays : ProviderDirectory → ProviderTurn → Type 0
-Stays o t = is_kept t.outcome ≡ false → t.state ≡ serving o
+Stays o t = is_retained t.outcome ≡ false → t.state ≡ serving o
 
 -- both
 record Goes (o : ProviderDirectory) (t : ProviderTurn) : Type 0 where
@@ -286,10 +286,10 @@ line_goes o d other = command_goes o d (text_in (codes "cmd") d) other
 
 -- ---- a log
 
-kept_accepted : (outcome : ProviderOutcome) (d x : Data) → IsStored outcome d x → is_accepted_line outcome ≡ true
-kept_accepted (prepared body nodes) d x is = refl
-kept_accepted (installed entry link) d x is = refl
-kept_accepted outcome d x is = absurd is
+retained_accepted : (outcome : ProviderOutcome) (d x : Data) → IsStored outcome d x → is_accepted_line outcome ≡ true
+retained_accepted (prepared body nodes) d x is = refl
+retained_accepted (installed entry link) d x is = refl
+retained_accepted outcome d x is = absurd is
 
 -- what a log of the lines to store of lines leaves, from a state on
 abbrev Leaves : ProviderState → List Data → List Data → Type 0
@@ -309,7 +309,7 @@ log_leaves o (d ∷ ds) (x ∷ xs) none (inl (is, are)) =
     let there = subst (λ s. Leaves s ds xs) (sym next.1) rest in (
       ap (λ (t : ProviderTurn). after_lines t.state xs) same ∙ there.0,
       (
-        ap (λ (t : ProviderTurn). is_accepted_line t.outcome) same ∙ kept_accepted (command_turn (serving o) d).outcome d x is,
+        ap (λ (t : ProviderTurn). is_accepted_line t.outcome) same ∙ retained_accepted (command_turn (serving o) d).outcome d x is,
         subst (λ (t : ProviderTurn). AllAccepted t.state xs) (sym same) there.1,
       ),
     )
@@ -373,7 +373,7 @@ replay_leaves o n log (d ∷ ds) (x ∷ xs) (line ∷ lines) none (inl (is, are)
     let same : command_turn (serving o) x ≡ command_turn (serving o) d = stored_same (serving o) d x is in
     let next = (line_goes o d none.0).serves in
     let of_log = named_of (command_turn (serving o) d).outcome d x is in
-    let accepted = ap (λ (t : ProviderTurn). is_accepted_line t.outcome) same ∙ kept_accepted (command_turn (serving o) d).outcome d x is in
+    let accepted = ap (λ (t : ProviderTurn). is_accepted_line t.outcome) same ∙ retained_accepted (command_turn (serving o) d).outcome d x is in
     let step = one_taken n log o line x next.0 here lines_are.0 of_log.0 of_log.1 accepted (ap (λ (t : ProviderTurn). t.state) same ∙ next.1) in
     let rest = replay_leaves next.0 (n + 1) (log_after log) ds xs lines none.1 (subst (λ s. AreStored s ds xs) next.1 are) lines_are.1 (below_after log here) in
     subst (λ s. EndsIn (after_lines s ds) (state_after replay_answer (replay_after (replay_from n log o) line) lines)) (sym next.1)

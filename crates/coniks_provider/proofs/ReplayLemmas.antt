@@ -1,6 +1,6 @@
 -- The loops over the elements of a line of a snapshot.
-use Rattle.std.proofs.Common.{◌≡◌, ℕ, ◌+◌, ◌<◌, ◌≤◌, List, [], ◌∷◌, ◌++◌, Bool, length, drop, get_or, refl, ap, subst, sym, ◌∙◌, arith, drop_of_length-le, Option, Some, None, true, false}
-use Rattle.std.specs.Prelude.{◌==◌, ◌&&◌, ◌⊎◌, nat_le, option_and_then, Result, Ok, Err}
+use Rattle.std.proofs.Common.{◌≡◌, ℕ, ◌+◌, ◌<◌, ◌≤◌, List, [], ◌∷◌, ◌++◌, Bool, length, drop, get_or, refl, ap, subst, sym, ◌∙◌, arith, drop_of_length-le, Some, None, true, false}
+use Rattle.std.specs.Prelude.{◌==◌, ◌&&◌, ◌⊎◌, nat_le, option_and_then, Ok, Err}
 use Rattle.std.proofs.lemmas.Bool.Decides.{nat_tests}
 use Rattle.coniks_lines.specs.Known.{Appends, Takes as Reads, next_count}
 use Rattle.coniks_lines.specs.Runs.{ComesToEnd, Streams}
@@ -10,7 +10,7 @@ use Rattle.coniks_provider.specs.Turns.{ProviderState}
 use Rattle.coniks_provider.specs.declared.replay.Place.{Place as Stage}
 use Rattle.coniks_provider.specs.declared.replay.Step.{Step as Done}
 use Rattle.coniks_chain.specs.Entries.{entry_from}
-use Rattle.serde_json.specs.Data.{Data, Items, item, no_items}
+use Rattle.serde_json.specs.Data.{Data, item}
 use Rattle.serde_json.specs.View.{view, items_view}
 use Rattle.serde_json.specs.declared.value.Value.{Value}
 use Rattle.coniks_provider.specs.Replays.{IsReplayed, IsReportOf, Replay, is_on, is_replayed, line_turn, place_after, place_of, replay_after, replay_at, replay_of, report_text, step_of}

@@ -4,7 +4,6 @@ use Rattle.std.specs.Prelude.{is_some, nat_le, nat_lt, not, ◌&&◌, option_map
 use Rattle.std.specs.Str.{bytes_eq}
 use Rattle.std.proofs.lemmas.Bool.{false≢true}
 use Rattle.std.proofs.lemmas.Bool.Decides.{nat_tests}
-use Rattle.std.proofs.lemmas.List.{length-map}
 use Rattle.std.proofs.lemmas.Slice.Eq.{bytes_eq-Decides}
 use Rattle.coniks_proof.specs.Batches.{after, fits}
 use Rattle.coniks_proof.specs.Hashing.{hashing}
@@ -90,7 +89,7 @@ shown_is {H} logged d pending b p rotates registry = rw (rotates.version, rotate
 pub agree_with : {H : Type 0} (logged : Bool) (d : DirectoryView H) (pending : Option Update) (name index : List ℕ) → MaySupply (supplied_index d.index) (latest_registry (history_of d.state)) name index
     → AgreeOn (supplied_index d.index) (index_with (provided_by logged d pending) name index) (latest_registry (history_of d.state))
 agree_with {H} logged d pending name index may other has = (elim (bytes_eq other name) as (λ b. bytes_eq other name ≡ b → supplied_index d.index other ≡ (if b then index else supplied_index d.index other)) [
-  | true ↦ λ on. let same = (bytes_eq-Decides other name).0 on in ap (supplied_index d.index) same ∙ may.kept (subst (λ n. has_name (latest_registry (history_of d.state)) n ≡ true) same has)
+  | true ↦ λ on. let same = (bytes_eq-Decides other name).0 on in ap (supplied_index d.index) same ∙ may.retained (subst (λ n. has_name (latest_registry (history_of d.state)) n ≡ true) same has)
   | false ↦ λ off. refl
 ]) refl
 
@@ -101,7 +100,7 @@ index_here o name index = let on : bytes_eq name name ≡ true = (bytes_eq-Decid
 pub not_other : (o : ProviderDirectory) (name index : List ℕ) → MaySupply (supplied_index o.indices) (latest_registry o.history) name index → has_other_index o name index ≡ false
 not_other o name index may = (elim (has_name (latest_registry o.history) name) as
     (λ b. has_name (latest_registry o.history) name ≡ b → b && not (bytes_eq (supplied_index o.indices name) index) ≡ false) [
-      | true ↦ λ has. let on : bytes_eq (supplied_index o.indices name) index ≡ true = (bytes_eq-Decides (supplied_index o.indices name) index).1 (may.kept has) in rw on refl
+      | true ↦ λ has. let on : bytes_eq (supplied_index o.indices name) index ≡ true = (bytes_eq-Decides (supplied_index o.indices name) index).1 (may.retained has) in rw on refl
       | false ↦ λ _. refl
     ]) refl
 

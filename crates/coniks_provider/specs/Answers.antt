@@ -66,7 +66,7 @@ pub data ProviderOutcome : Type 0 where
   not_abandoned : ProviderOutcome
   -- the line names another body or link than its own
   replay_differs : ProviderOutcome
-  -- the name asked is registered with another index
+  -- the name requested is registered with another index
   bad_index : ProviderOutcome
 
 -- the operation at this place has this error
@@ -81,7 +81,7 @@ provider_outcome_of (reply.Prepared body nodes) = prepared body nodes
 provider_outcome_of (reply.Installed entry link) = installed entry link.0
 provider_outcome_of reply.Withdrawn = withdrawn
 provider_outcome_of (reply.LookedUp name found) = looked_up found.entry found.index.0 (string_bytes name) (path_of found.proof)
-provider_outcome_of (reply.Latest epoch link names nodes) = at_latest epoch link.0 names nodes
+provider_outcome_of (reply.Latest latest) = at_latest latest.epoch latest.link.0 latest.names latest.nodes
 provider_outcome_of (reply.Bindings page) = listed page.text.items
 provider_outcome_of reply.Restore = restore_begun
 provider_outcome_of (reply.Restoring names) = bindings_added names

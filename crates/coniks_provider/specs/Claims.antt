@@ -18,12 +18,12 @@ claim_in n name d = if_there name d (digits_in n name d)
 abbrev pub agrees : Claim → Octets → Bool
 agrees None bytes = false
 agrees (Some None) bytes = true
-agrees (Some (Some said)) bytes = bytes_eq said bytes
+agrees (Some (Some stated)) bytes = bytes_eq stated bytes
 
 -- the line names these bytes, or none if there are none
 abbrev pub is_named : Claim → Option Octets → Bool
 is_named (Some None) None = true
-is_named (Some (Some said)) (Some bytes) = bytes_eq said bytes
+is_named (Some (Some stated)) (Some bytes) = bytes_eq stated bytes
 is_named _ _ = false
 
 -- whether the rules of a log hold: the member `log` is 2, or it is missing; another one is nothing

@@ -1,20 +1,12 @@
 -- The command line of the program, as `clap`'s definitions see it.
-use Rattle.std.specs.Prelude.{ℤ, List, codes, pos, Bool, true, false, [], ◌∷◌, Some}
+use Rattle.std.specs.Prelude.{List, codes, pos, Bool, true, false, [], ◌∷◌, Some}
 use Rattle.std.specs.Option.{option_map_or}
 use Rattle.std.specs.Str.{bytes_eq}
 use Rattle.coniks_proof.specs.Octets.{Octets}
 use Rattle.clap.specs.Words.{App, Row, Rule, first_of, matches_of, new_app, new_rule, with_rule}
 use Rattle.clap.specs.Simple.{on_top}
 use Rattle.clap.specs.declared.builder.action.ArgAction.TheVariants as action
-use Rattle.clap.specs.declared.builder.value_parser.ValueParser.TheVariants as parser
-
--- an option with this name, and the range of its number
-abbrev pub number_rule : Octets → ℤ → ℤ → Rule
-number_rule name least most = record (new_rule name) {
-  long = Some name;
-  value_names = 1;
-  parser = Some (parser.Signed least most);
-}
+use Rattle.coniks_programs.specs.Commands.{number_rule}
 
 -- `--workers`, a number from 1 to 64
 abbrev pub workers_rule : Rule

@@ -5,6 +5,8 @@ use Rattle.coniks_directory.specs.SuppliedBatches.{Indexed, indexed}
 use Rattle.coniks_proof.specs.Batches.{Operation, register}
 use Rattle.coniks_programs.specs.Members.{digits_in, given}
 use Rattle.coniks_programs.specs.Operations.{operation_in, operation_of_kind}
+use Rattle.coniks_programs.specs.declared.operations.ReadList.{ReadList}
+use Rattle.coniks_programs.specs.declared.operations.ReadList.TheVariants.{Whole, BadElement}
 use Rattle.coniks_provider.specs.declared.batch.Operations.{Operations}
 use Rattle.coniks_provider.specs.declared.operations.Elements.{Elements}
 use Rattle.coniks_provider.specs.declared.operations.Elements.TheVariants as elements
@@ -39,6 +41,6 @@ abbrev pub batch_in : Elements → Items → Result (List Indexed) ℕ
 batch_in kind elements = batch_from kind 0 elements
 
 -- what was read, as the definitions see it
-abbrev pub batch_line_read : Result Operations ℕ → Result (List Indexed) ℕ
-batch_line_read (Ok read) = Ok (indexed read.ops.items read.indices.items)
-batch_line_read (Err place) = Err place
+abbrev pub batch_line_read : ReadList Operations → Result (List Indexed) ℕ
+batch_line_read (Whole read) = Ok (indexed read.ops.items read.indices.items)
+batch_line_read (BadElement place) = Err place

@@ -3,7 +3,7 @@ use Rattle.std.specs.Prelude.{◌≡◌, ◌≢◌, ◌⊎◌, ℕ, List, [], �
 use Rattle.serde_json.specs.Data.{Data}
 use Rattle.serde_json.specs.Find.{get}
 use Rattle.coniks_proof.specs.Octets.{Octets}
-use Rattle.coniks_chain.specs.Entries.{body_bytes}
+use Rattle.coniks_chain.specs.Entries.{body_bytes, body_length}
 use Rattle.coniks_programs.specs.Members.{object_in, text_in}
 use Rattle.coniks_provider.specs.Answers.{ProviderOutcome, installed, is_accepted_line, prepared}
 use Rattle.coniks_provider.specs.Claims.{claim_in}
@@ -19,15 +19,15 @@ pub record Names (name : Octets) (n : ℕ) (bytes : Octets) (d named : Data) : T
 
 -- the line to store for a line with this outcome: a `prepare` with its body, or an `install` with its link
 abbrev pub IsStored : ProviderOutcome → Data → Data → Type 0
-IsStored (prepared body nodes) d stored = (kind_in d ≡ kind.Prepare) × Names (codes "body") 145 (body_bytes body) d stored
+IsStored (prepared body nodes) d stored = (kind_in d ≡ kind.Prepare) × Names (codes "body") body_length (body_bytes body) d stored
 IsStored (installed entry link) d stored = (kind_in d ≡ kind.Install) × Names (codes "link") 32 link d stored
 IsStored outcome d stored = ⊥
 
 -- a log has a line for it
-abbrev pub is_kept : ProviderOutcome → Bool
-is_kept (prepared body nodes) = true
-is_kept (installed entry link) = true
-is_kept outcome = false
+abbrev pub is_retained : ProviderOutcome → Bool
+is_retained (prepared body nodes) = true
+is_retained (installed entry link) = true
+is_retained outcome = false
 
 -- the state after lines
 abbrev pub after_lines : ProviderState → List Data → ProviderState
@@ -42,10 +42,10 @@ AllAccepted s (d ∷ ds) = (is_accepted_line (command_turn s d).outcome ≡ true
 -- the lines to store of lines: one for each accepted `prepare` and `install`, and none for another line
 abbrev pub AreStored : ProviderState → List Data → List Data → Type 0
 AreStored s [] stored = stored ≡ []
-AreStored s (d ∷ ds) [] = (is_kept (command_turn s d).outcome ≡ false) × AreStored (command_turn s d).state ds []
+AreStored s (d ∷ ds) [] = (is_retained (command_turn s d).outcome ≡ false) × AreStored (command_turn s d).state ds []
 AreStored s (d ∷ ds) (x ∷ xs) =
     (IsStored (command_turn s d).outcome d x × AreStored (command_turn s d).state ds xs)
-    ⊎ ((is_kept (command_turn s d).outcome ≡ false) × AreStored (command_turn s d).state ds (x ∷ xs))
+    ⊎ ((is_retained (command_turn s d).outcome ≡ false) × AreStored (command_turn s d).state ds (x ∷ xs))
 
 -- the lines are these objects
 abbrev pub AreLines : List Octets → List Data → Type 0

@@ -1,12 +1,12 @@
 -- What the program does with its arguments, and what it writes to standard error.
 use Rattle.std.specs.Prelude.{List, codes, Bool, true, false, Result, Ok, Err}
-use Rattle.coniks_programs.specs.Endings.{EndsFor, Outcome}
+use Rattle.coniks_programs.specs.Endings.{EndsFor, Outcome, line_of}
 use Rattle.coniks_programs.specs.declared.cli.arguments.Unread.{Unread}
 use Rattle.coniks_programs.specs.declared.cli.arguments.Unread.TheVariants as unread
 use Rattle.coniks_programs.specs.declared.cli.ending.Ending.TheVariants.{Done, Refused, Unusable}
 use Rattle.coniks_programs.specs.Faults.{FailsOn}
 use Rattle.coniks_programs.specs.declared.fault.RunFault.{RunFault}
-use Rattle.coniks_programs.specs.declared.fault.RunFault.TheVariants.{Read, Write, OutOfMemory, NoBoard}
+use Rattle.coniks_programs.specs.declared.fault.RunFault.TheVariants.{OutOfMemory}
 use Rattle.coniks_lines.specs.Runs.{EndsWell, Streams}
 use Rattle.coniks_proof.specs.Octets.{Octets}
 use Rattle.coniks_provider.specs.Replays.{IsReplay}
@@ -15,10 +15,7 @@ use Rattle.coniks_provider.specs.Command.{is_replay, provider}
 
 -- the line for an error
 abbrev pub fault_line : RunFault → Octets
-fault_line Read = codes "provider: read failed\n"
-fault_line Write = codes "provider: write failed\n"
-fault_line OutOfMemory = codes "provider: out of memory\n"
-fault_line NoBoard = codes "provider: no board\n"
+fault_line = line_of (codes "provider")
 
 -- the line for arguments that cannot be read
 abbrev pub unread_line : Unread → Octets
@@ -35,13 +32,13 @@ abbrev pub RunsBy : Bool → Streams → Result Bool RunFault → Type 0
 RunsBy true io result = IsReplay io result
 RunsBy false io result = Provides io result
 
--- the run of these arguments may end in this way
-abbrev pub RunEnds : List Octets → Streams → Outcome → Type 0
-RunEnds words io (Ok (Done all)) = RunsBy (is_replay words) io (Ok all)
-RunEnds words io (Ok (Refused text)) = ⊥
-RunEnds words io (Ok (Unusable line)) = ⊥
-RunEnds words io (Err fault) = RunsBy (is_replay words) io (Err fault)
+-- a run, or a replay, may end in this way
+abbrev pub EndsBy : Bool → Streams → Outcome → Type 0
+EndsBy replays io (Ok (Done all)) = RunsBy replays io (Ok all)
+EndsBy replays io (Ok (Refused text)) = ⊥
+EndsBy replays io (Ok (Unusable line)) = ⊥
+EndsBy replays io (Err fault) = RunsBy replays io (Err fault)
 
 -- the program may end in this way for these arguments
 abbrev pub Ends : List Octets → Streams → Outcome → Type 0
-Ends words io = EndsFor provider words (RunEnds words io) io
+Ends words io = EndsFor provider words (EndsBy (is_replay words) io) io

@@ -1,5 +1,5 @@
 -- A replay of the lines of a log, or of a snapshot and its log.
-use Rattle.std.specs.Prelude.{◌≡◌, ◌==◌, ◌-◌, ℕ, ◌+◌, ◌*◌, List, [], ◌∷◌, ◌++◌, codes, length, Bool, true, false, not, ◌&&◌, ◌||◌, nat_le, nat_lt, Option, Some, None, is_some, option_and_then, option_map, Result, Ok, Err, IfErr, IfOk, if◌then◌else◌}
+use Rattle.std.specs.Prelude.{◌≡◌, ◌==◌, ◌-◌, ℕ, ◌+◌, ◌*◌, [], ◌∷◌, ◌++◌, codes, length, Bool, true, false, not, ◌&&◌, ◌||◌, nat_le, nat_lt, Option, Some, None, is_some, option_and_then, option_map, Result, Ok, Err, IfErr, IfOk, if◌then◌else◌}
 use Rattle.std.specs.Result.{result_ok}
 use Rattle.std.specs.Str.{bytes_eq}
 use Rattle.hex.specs.Hex.{decode_sized}
@@ -9,11 +9,11 @@ use Rattle.serde_json.specs.Written.{compact_text}
 use Rattle.coniks_lines.specs.Known.{Appends, Takes as Reads, next_count}
 use Rattle.coniks_lines.specs.Lines.{lines_of}
 use Rattle.coniks_lines.specs.Machine.{Answer, state_after}
-use Rattle.coniks_lines.specs.Runs.{CannotRead, CannotWrite, ComesToEnd, IsBeginning, Streams, WritesOn, WritesPart}
+use Rattle.coniks_lines.specs.Runs.{CannotRead, CannotWrite, ComesToEnd, Streams}
 use Rattle.coniks_proof.specs.Octets.{Octets}
 use Rattle.coniks_proof.specs.Preimages.{zeros}
 use Rattle.coniks_proof.specs.Sha256.{sha256}
-use Rattle.coniks_chain.specs.Entries.{entry_bytes, entry_from, link_preimage}
+use Rattle.coniks_chain.specs.Entries.{body_length, entry_bytes, entry_from, entry_length, link_preimage}
 use Rattle.coniks_chain.specs.declared.entry.Entry.{Entry}
 use Rattle.coniks_programs.specs.EntryLines.{entry_in}
 use Rattle.coniks_programs.specs.Members.{array_in, digits_in, number_in, object_in, text_in}
@@ -179,7 +179,7 @@ and_then (Ok a) next = next a
 
 -- a snapshot after an element with an entry
 abbrev pub after_entry : Snapshot → Data → Result Snapshot Why
-after_entry s d = needed (digits_of 209 d) named.Entries (λ bytes. or_differs (with_entry s (entry_from bytes)))
+after_entry s d = needed (digits_of entry_length d) named.Entries (λ bytes. or_differs (with_entry s (entry_from bytes)))
 
 -- a snapshot after the entries of elements
 abbrev pub after_entries : Snapshot → Items → Result Snapshot Why
@@ -196,7 +196,7 @@ with_body s = if nat_lt 0 s.replaced then Some (record s { part = part.Replaced;
 
 -- a snapshot after an element with a replaced body
 abbrev pub after_body : Snapshot → Data → Result Snapshot Why
-after_body s d = needed (digits_of 145 d) named.Replaced (λ bytes. or_differs (with_body s))
+after_body s d = needed (digits_of body_length d) named.Replaced (λ bytes. or_differs (with_body s))
 
 -- a snapshot after the replaced bodies of elements
 abbrev pub after_bodies : Snapshot → Items → Result Snapshot Why
@@ -244,7 +244,7 @@ named_by _ m = Err (why.Member m)
 
 -- a `prepare` of a log names its body, and an `install` its link
 abbrev pub check_named : Kind → Data → Result (Unit {0}) Why
-check_named kind.Prepare d = named_by (claim_in 145 (codes "body") d) named.Body
+check_named kind.Prepare d = named_by (claim_in body_length (codes "body") d) named.Body
 check_named kind.Install d = named_by (claim_in 32 (codes "link") d) named.Link
 check_named _ d = Ok tt
 

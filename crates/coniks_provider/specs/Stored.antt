@@ -1,5 +1,5 @@
 -- The line that a log stores for a line.
-use Rattle.std.specs.Prelude.{◌==◌, ◌-◌, ℕ, [], ◌∷◌, ◌++◌, codes, length, take, Bool, Option, Some, None, is_some, if◌then◌else◌}
+use Rattle.std.specs.Prelude.{◌==◌, ◌-◌, [], ◌∷◌, ◌++◌, codes, length, take, Option, Some, None, is_some, if◌then◌else◌}
 use Rattle.serde_json.specs.Data.{Data, object, member, no_members}
 use Rattle.serde_json.specs.Find.{get}
 use Rattle.serde_json.specs.Written.{compact_text}

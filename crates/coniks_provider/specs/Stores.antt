@@ -1,5 +1,5 @@
 -- What a store holds, as a state, and what is true of it.
-use Rattle.std.specs.Prelude.{Bool, ◌≡◌, ◌<◌, List, length, IfSome, Option, Some, None, option_map, Result, Ok, Err}
+use Rattle.std.specs.Prelude.{Bool, ◌≡◌, ◌<◌, List, length, IfSome, Option, Some, None, option_map}
 use Rattle.coniks_proof.specs.Octets.{Octets}
 use Rattle.coniks_proof.specs.Sha256.{sha256}
 use Rattle.coniks_chain.specs.Chain.{before_at}
@@ -23,12 +23,13 @@ use Rattle.coniks_programs.specs.Turns.{refused}
 use Rattle.coniks_provider.specs.Answers.{ProviderOutcome, bad_index, bad_version, because, malformed, not_later, other_index_at, provider_outcome_of, restore_begun, root_differs}
 use Rattle.coniks_provider.specs.Turns.{BatchLine, ProviderDirectory, Pending, ProviderState, ProviderTurn, Restore, nothing, restoring, serving}
 use Rattle.coniks_provider.specs.declared.batch.ReadBatch.{ReadBatch}
-use Rattle.coniks_provider.specs.declared.reply.Reply.{Reply}
+use Rattle.coniks_provider.specs.declared.restoring.Beginning.{Beginning}
+use Rattle.coniks_provider.specs.declared.restoring.Beginning.TheVariants.{Begun, Refused}
 use Rattle.coniks_provider.specs.declared.restoring.Restore.{Restore as Restoring}
 use Rattle.coniks_provider.specs.declared.service.Pending.{Pending as Update}
 use Rattle.coniks_provider.specs.declared.service.Service.{Service}
-use Rattle.coniks_provider.specs.declared.held.Held.{Held}
-use Rattle.coniks_provider.specs.declared.held.Held.TheVariants as held
+use Rattle.coniks_provider.specs.declared.stage.Stage.{Stage}
+use Rattle.coniks_provider.specs.declared.stage.Stage.TheVariants as stage
 
 -- a directory as its contracts see it, over the indices that were supplied
 abbrev pub DirectoryView : Type 0 → Type 0
@@ -78,14 +79,14 @@ abbrev pub restore_of : Restoring → Restore
 restore_of r = restore_by r.is_logged r.restoring
 
 -- it isn't a restore
-abbrev pub IsNotRestoring : Held → Type 0
-IsNotRestoring (held.Restoring r) = ⊥
+abbrev pub IsNotRestoring : Stage → Type 0
+IsNotRestoring (stage.Restoring r) = ⊥
 IsNotRestoring _ = Unit {0}
 
-abbrev pub provider_state_of : Held → ProviderState
-provider_state_of held.Nothing = nothing
-provider_state_of (held.Restoring r) = restoring (restore_of r)
-provider_state_of (held.Open s) = serving (provided_of s)
+abbrev pub provider_state_of : Stage → ProviderState
+provider_state_of stage.Nothing = nothing
+provider_state_of (stage.Restoring r) = restoring (restore_of r)
+provider_state_of (stage.Open s) = serving (provided_of s)
 
 -- the update can be installed, under the number that its body has
 pub record IsPending {H : Type 0} (d : DirectoryView H) (p : Update) : Type 0 where
@@ -100,10 +101,10 @@ pub record IsPending {H : Type 0} (d : DirectoryView H) (p : Update) : Type 0 wh
 abbrev pub IsServing : Service → Type 0
 IsServing s = IfSome s.pending (IsPending s.directory)
 
-abbrev pub IsServingIf : Held → Type 0
-IsServingIf held.Nothing = Unit {0}
-IsServingIf (held.Restoring r) = Unit {0}
-IsServingIf (held.Open s) = IsServing s
+abbrev pub IsServingIf : Stage → Type 0
+IsServingIf stage.Nothing = Unit {0}
+IsServingIf (stage.Restoring r) = Unit {0}
+IsServingIf (stage.Open s) = IsServing s
 
 -- the error of a batch, as a reply; none if an allocation failed
 abbrev pub supplied_refused_as : SuppliedBatchFault → Option ProviderOutcome
@@ -136,6 +137,6 @@ restore_refused_as RootDiffers = Some root_differs
 restore_refused_as OutOfMemory = None
 
 -- a restore that begins, or the refusal of its entry
-abbrev pub begun_turn : Result Restoring Reply → ProviderTurn
-begun_turn (Ok r) = record { outcome = restore_begun; state = restoring (restore_of r) }
-begun_turn (Err reply) = refused nothing (provider_outcome_of reply)
+abbrev pub begun_turn : Beginning → ProviderTurn
+begun_turn (Begun r) = record { outcome = restore_begun; state = restoring (restore_of r) }
+begun_turn (Refused reply) = refused nothing (provider_outcome_of reply)

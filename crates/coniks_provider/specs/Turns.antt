@@ -13,7 +13,7 @@ use Rattle.coniks_proof.specs.Registry.{Registry, has_name, root_of}
 use Rattle.coniks_proof.specs.declared.values.Index.{Index}
 use Rattle.coniks_proof.specs.declared.values.TheConstants.{MAX_NAME, MAX_OPERATIONS}
 use Rattle.coniks_chain.specs.Chain.{before_at, link_before}
-use Rattle.coniks_chain.specs.Entries.{body_bytes, link_preimage, signed}
+use Rattle.coniks_chain.specs.Entries.{body_bytes, body_length, link_preimage, signed}
 use Rattle.coniks_chain.specs.declared.auditor.AuditorState.{AuditorState}
 use Rattle.coniks_chain.specs.declared.entry.Body.{Body}
 use Rattle.coniks_chain.specs.declared.entry.Entry.{Entry}
@@ -21,7 +21,7 @@ use Rattle.coniks_directory.specs.Bindings.{Indexed as IndexedBinding, bindings_
 use Rattle.coniks_directory.specs.Chain.{body_of}
 use Rattle.coniks_directory.specs.History.{Shown, latest_epoch, latest_nonce, latest_registry, latest_version, shown_at}
 use Rattle.coniks_directory.specs.Nodes.{epoch_nodes}
-use Rattle.coniks_directory.specs.Restored.{restored_epoch, said_before}
+use Rattle.coniks_directory.specs.Restored.{restored_epoch, stated_before}
 use Rattle.coniks_directory.specs.Runs.{shown_by}
 use Rattle.coniks_directory.specs.Supplied.{Supplied, supplied_index}
 use Rattle.coniks_directory.specs.SuppliedBatches.{Indexed, SuppliedFault, index_in, indices_by, operations_of, put_indices, supplied_fault}
@@ -311,7 +311,7 @@ bindings_at o number after most None = because unknown_epoch
 bindings_at o number after most (Some shown) =
     page_of_found number most (bindings_page sha256 (supplied_index o.indices) shown.registry (option_map index_of_bytes after) (most + 1))
 
--- a page that was asked for
+-- a page that was requested
 abbrev pub bindings_with : ProviderState → ℕ → Option Octets → ℕ → ProviderOutcome
 bindings_with nothing number after most = because not_open
 bindings_with (restoring r) number after most = because not_open
@@ -424,7 +424,7 @@ restored_directory r = record {
   logged = r.logged;
   nonce = r.entry.body.nonce.0;
   policy = r.entry.body.policy;
-  before = Some (said_before r.entry);
+  before = Some (stated_before r.entry);
   indices = r.indices;
   history = restored_epoch r.entry r.ops ∷ [];
   chain = r.entry ∷ [];
@@ -449,7 +449,7 @@ restored_turn (serving o) = refused (serving o) not_restoring
 
 -- what an object says of its update
 abbrev pub claims_in : Data → Claims
-claims_in d = record { body = claim_in 145 (codes "body") d; abandons = claim_in 145 (codes "abandons") d }
+claims_in d = record { body = claim_in body_length (codes "body") d; abandons = claim_in body_length (codes "abandons") d }
 
 -- a reply that leaves the state as it is
 abbrev pub reads : ProviderState → ProviderOutcome → ProviderTurn

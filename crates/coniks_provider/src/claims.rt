@@ -33,7 +33,7 @@ pub(crate) fn agrees<const N: usize>(claim: &Option<Option<[u8; N]>>, bytes: &[u
     match claim {
         None => false,
         Some(None) => true,
-        Some(Some(said)) => said == bytes,
+        Some(Some(stated)) => stated == bytes,
     }
 }
 
@@ -46,7 +46,7 @@ pub(crate) fn is_named<const N: usize>(
 {
     match (claim, bytes) {
         (Some(None), None) => true,
-        (Some(Some(said)), Some(bytes)) => said == bytes,
+        (Some(Some(stated)), Some(bytes)) => stated == bytes,
         _ => false,
     }
 }

@@ -26,6 +26,7 @@ use coniks_programs::fault::{RunFault, of_run};
 use coniks_programs::members::{
     array, bytes_of_digits, digits32, digits32_if_there, nonce_of, number, read_object, text,
 };
+use coniks_programs::operations::ReadList;
 use coniks_programs::printing::Member;
 use coniks_programs::refusal::Refusal;
 use coniks_proof::MAX_OPERATIONS;
@@ -109,7 +110,7 @@ impl<'r, T: Threads + Sync> Providing<'r, T> {
             return Ok(Reply::Refused(Refusal::BadMember(Member::Ops)));
         };
         match read_operations(self.alloc, Elements::Operations, elements)? {
-            Ok(read) => {
+            ReadList::Whole(read) => {
                 let line = ReadBatch {
                     epoch,
                     batch: OwnedBatch {
@@ -122,7 +123,7 @@ impl<'r, T: Threads + Sync> Providing<'r, T> {
                 };
                 self.store.prepare(self.rt, self.parallelism, line)
             }
-            Err(place) => Ok(Reply::Refused(Refusal::BadOperation(place))),
+            ReadList::BadElement(place) => Ok(Reply::Refused(Refusal::BadOperation(place))),
         }
     }
 
@@ -194,8 +195,8 @@ impl<'r, T: Threads + Sync> Providing<'r, T> {
             return Ok(Reply::Refused(Refusal::BadMember(Member::Bindings)));
         };
         match read_operations(self.alloc, Elements::Bindings, elements)? {
-            Ok(read) => self.store.restore_more(read),
-            Err(place) => Ok(Reply::BadBinding(place)),
+            ReadList::Whole(read) => self.store.restore_more(read),
+            ReadList::BadElement(place) => Ok(Reply::BadBinding(place)),
         }
     }
 

@@ -8,7 +8,7 @@ ghost use Rattle.coniks_provider.specs.Lines.{batch_in, batch_line_read, element
 use crate::batch::Operations;
 use coniks_directory::{Op, OpKind};
 use coniks_programs::members::digits32;
-use coniks_programs::operations::{read_op, read_op_of};
+use coniks_programs::operations::{ReadList, read_op, read_op_of};
 use coniks_proof::Index;
 use serde_json::Value;
 use std::alloc::{AllocError, Global};
@@ -57,7 +57,7 @@ pub(crate) fn read_operations(
     alloc: Global,
     kind: Elements,
     list: &[Value],
-) -> Result<Result<Operations, usize>, AllocError>
+) -> Result<ReadList<Operations>, AllocError>
     ensures { IfOk result (λ read. batch_line_read read ≡ batch_in kind (items_view list.now)) }
 {
     let mut ops = Vec::with_capacity(alloc, list.len())?;
@@ -68,8 +68,8 @@ pub(crate) fn read_operations(
                 ops.push(op)?;
                 indices.push(index)?;
             }
-            None => return Ok(Err(place)),
+            None => return Ok(ReadList::BadElement(place)),
         }
     }
-    Ok(Ok(Operations { ops, indices }))
+    Ok(ReadList::Whole(Operations { ops, indices }))
 }

@@ -30,7 +30,7 @@ use coniks_threads::Parallelism;
 use kind::{Kind, kind_in};
 use log::{Log, after_first, check_named, check_skipped, is_below, log_after};
 use refusal::{Named, Why, why_object};
-use report::{Latest, refused, replayed};
+use report::{refused, replayed};
 use serde_json::Value;
 use snapshot::{Part, Snapshot, bodies_in, entries_in, header_in, may_restore};
 use std::alloc::{AllocError, Global};
@@ -349,20 +349,8 @@ impl<'r, T: Threads + Sync> Replaying<'r, T> {
         ensures { IfOk result (λ r. (r.0 ≡ is_open self.now.providing.store) × (r.1.text.items ≡ latest_text self.now.lines
             (pending_in self.now.providing.store) position (latest_outcome self.now.providing.store))) }
     {
-        let Reply::Latest {
-            epoch,
-            link,
-            names,
-            nodes,
-        } = self.providing.store.latest()
-        else {
+        let Reply::Latest(latest) = self.providing.store.latest() else {
             return self.ended();
-        };
-        let latest = Latest {
-            epoch,
-            link: link.0,
-            names,
-            nodes,
         };
         let pending = self.providing.store.pending_body();
         Ok((true, replayed(self.alloc, &latest, &pending, position)?))

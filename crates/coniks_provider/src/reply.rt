@@ -5,6 +5,7 @@ ghost use Rattle.serde_json.specs.Written.{compact_text};
 ghost use Rattle.coniks_chain.specs.Entries.{body_bytes};
 ghost use Rattle.coniks_provider.specs.Answers.{bad_binding_data, bad_log_data, entry_data, latest_data, provider_outcome_of, prepared_data, provider_reply_text, restoring_data};
 
+use crate::latest::Latest;
 use coniks_chain::{Body, Entry};
 use coniks_directory::SignedProof;
 use coniks_programs::objects::{Field, Shown, object};
@@ -21,42 +22,23 @@ pub(crate) enum Reply {
     /// The directory is open.
     Opened,
     /// An update was prepared: the body to sign, and the number of nodes that the epoch adds.
-    Prepared {
-        body: Body,
-        nodes: usize,
-    },
+    Prepared { body: Body, nodes: usize },
     /// The pending update was installed: the entry that it added to the chain, and the entry's link.
-    Installed {
-        entry: Entry,
-        link: Digest,
-    },
+    Installed { entry: Entry, link: Digest },
     /// The pending update was dropped.
     Withdrawn,
     /// A lookup found the authentication path to the name's index in the tree of the epoch with this entry.
-    LookedUp {
-        name: String,
-        found: SignedProof,
-    },
-    /// The latest epoch, its entry's link, and the numbers of names and nodes.
-    Latest {
-        epoch: u64,
-        link: Digest,
-        names: usize,
-        nodes: usize,
-    },
+    LookedUp { name: String, found: SignedProof },
+    /// The state at the latest epoch.
+    Latest(Latest),
     /// A page of bindings, as it is printed.
     Bindings(Printable),
     /// A restore has begun.
     Restore,
     /// Bindings were added to a restore: the number of its names.
-    Restoring {
-        names: usize,
-    },
+    Restoring { names: usize },
     /// The directory is restored: its entry, and the entry's link.
-    Restored {
-        entry: Entry,
-        link: Digest,
-    },
+    Restored { entry: Entry, link: Digest },
     /// The line is refused for a reason that `run` has too.
     Refused(Refusal),
     /// The element of `bindings` at this position is no binding.
@@ -81,7 +63,7 @@ pub(crate) enum Reply {
     NotAbandoned,
     /// The line names another body or link than its own.
     ReplayDiffers,
-    /// The name asked is registered with another index.
+    /// The name requested is registered with another index.
     BadIndex,
 }
 
@@ -98,7 +80,7 @@ impl Reply {
             | Reply::Installed { .. }
             | Reply::Withdrawn
             | Reply::LookedUp { .. }
-            | Reply::Latest { .. }
+            | Reply::Latest(_)
             | Reply::Bindings(_)
             | Reply::Restore
             | Reply::Restoring { .. }
@@ -129,12 +111,7 @@ impl Reply {
             Reply::Installed { entry, link } => with_entry(alloc, "install", &entry, &link),
             Reply::Withdrawn => object(alloc, &[Field("ok", Shown::Text("withdraw"))]),
             Reply::LookedUp { name, found } => looked_up(alloc, name.as_str(), &found),
-            Reply::Latest {
-                epoch,
-                link,
-                names,
-                nodes,
-            } => latest(alloc, epoch, &link, names, nodes),
+            Reply::Latest(latest) => latest_object(alloc, &latest),
             Reply::Bindings(page) => Ok(page),
             Reply::Restore => object(alloc, &[Field("ok", Shown::Text("restore"))]),
             Reply::Restoring { names } => restoring(alloc, names),
@@ -247,22 +224,16 @@ fn bad_log(alloc: Global) -> Result<Printable, AllocError>
 }
 
 /// Returns the object of the latest epoch.
-fn latest<'a>(
-    alloc: Global,
-    epoch: u64,
-    link: &'a Digest,
-    names: usize,
-    nodes: usize,
-) -> Result<Printable, AllocError>
-    ensures { IfOk result (λ object. object.text.items ≡ compact_text (latest_data epoch link.now.0 names nodes)) }
+fn latest_object(alloc: Global, latest: &Latest) -> Result<Printable, AllocError>
+    ensures { IfOk result (λ object. object.text.items ≡ compact_text (latest_data latest.now.epoch latest.now.link.0 latest.now.names latest.now.nodes)) }
 {
     object(
         alloc,
         &[
-            Field("epoch", Shown::Number(epoch)),
-            Field("link", Shown::Digest(&link.0)),
-            Field("names", Shown::Number(names as u64)),
-            Field("nodes", Shown::Number(nodes as u64)),
+            Field("epoch", Shown::Number(latest.epoch)),
+            Field("link", Shown::Digest(&latest.link.0)),
+            Field("names", Shown::Number(latest.names as u64)),
+            Field("nodes", Shown::Number(latest.nodes as u64)),
             Field("ok", Shown::Text("latest")),
         ],
     )

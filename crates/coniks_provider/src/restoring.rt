@@ -7,9 +7,9 @@ ghost use Rattle.coniks_provider.specs.Stores.{IsServingIf, begun_turn, provider
 ghost use Rattle.coniks_provider.specs.Turns.{end_restore, entry_refusal, restore_from, restoring, restoring_on, restoring_refusal};
 
 use crate::batch::Operations;
-use crate::held::Held;
 use crate::reply::Reply;
 use crate::service::Service;
+use crate::stage::Stage;
 use coniks_chain::Entry;
 use coniks_directory::{OwnedBindings, RestoreFault, Restoring, SuppliedIndices};
 use coniks_programs::refusal::{Refusal, batch_refusal};
@@ -40,23 +40,32 @@ pub(crate) struct Restore {
     restoring: Restoring<Sha256Hash, SuppliedIndices>,
 }
 
+/// The outcome of an entry that a restore is to begin from.
+#[derive(Drop)]
+pub(crate) enum Beginning {
+    /// The restore has begun.
+    Begun(Restore),
+    /// The entry is refused.
+    Refused(Reply),
+}
+
 impl Restore {
     /// Begins to restore the directory of an entry, or returns the refusal of the entry.
     pub(crate) fn begin(
         alloc: Global,
         is_logged: bool,
         entry: Entry,
-    ) -> Result<Result<Restore, Reply>, AllocError>
+    ) -> Result<Beginning, AllocError>
         ensures begun { IfOk result (λ begun. begun_turn begun ≡ restore_from is_logged entry (entry_refusal entry)) }
         ensures memory { OnErr result (entry_refusal entry ≡ None) }
     {
         let indices = SuppliedIndices::new(alloc);
         match Restoring::new(alloc, Sha256Hash, indices, entry) {
-            Ok(restoring) => Ok(Ok(Restore {
+            Ok(restoring) => Ok(Beginning::Begun(Restore {
                 is_logged,
                 restoring,
             })),
-            Err(fault) => Ok(Err(restore_refusal(fault)?)),
+            Err(fault) => Ok(Beginning::Refused(restore_refusal(fault)?)),
         }
     }
 
@@ -91,7 +100,7 @@ impl Restore {
         self,
         rt: &T,
         parallelism: Parallelism,
-    ) -> Result<(Held, Reply), AllocError>
+    ) -> Result<(Stage, Reply), AllocError>
         ensures served { IfOk result (λ it. IsServingIf it.0) }
         ensures reply { IfOk result (λ it. provider_outcome_of it.1 ≡ (end_restore (restore_of self)).outcome) }
         ensures state { IfOk result (λ it. provider_state_of it.0 ≡ (end_restore (restore_of self)).state) }
@@ -102,9 +111,9 @@ impl Restore {
                     entry: only_entry(directory.chain()),
                     link: directory.latest_link(),
                 };
-                Ok((Held::Open(Service::of(self.is_logged, directory)), reply))
+                Ok((Stage::Open(Service::of(self.is_logged, directory)), reply))
             }
-            Err(fault) => Ok((Held::Nothing, restore_refusal(fault)?)),
+            Err(fault) => Ok((Stage::Nothing, restore_refusal(fault)?)),
         }
     }
 }

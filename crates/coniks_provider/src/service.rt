@@ -10,9 +10,10 @@ ghost use Rattle.coniks_provider.specs.Turns.{bindings_with, index_of_bytes, ins
 
 use crate::batch::ReadBatch;
 use crate::claims::{agrees, is_named};
+use crate::latest::Latest;
 use crate::page::page_object;
 use crate::reply::Reply;
-use coniks_chain::{Body, Entry, Signature};
+use coniks_chain::{BODY_BYTES, Body, Entry, Signature};
 use coniks_directory::{
     BindingsFault, Directory, InstallFault, LinkedEntry, LookupAtFault, Prepared,
     SuppliedBatchFault, SuppliedIndices,
@@ -139,7 +140,7 @@ impl Service {
         let ReadBatch {
             epoch,
             batch,
-            body: said,
+            body: stated,
             ..
         } = line;
         let update = match self.directory.prepare_owned(rt, batch, parallelism, &Open) {
@@ -150,7 +151,7 @@ impl Service {
             return Ok(refused);
         }
         let body = self.directory.next_body(&update, epoch);
-        if !agrees(&said, &body.bytes()) {
+        if !agrees(&stated, &body.bytes()) {
             return Ok(Reply::ReplayDiffers);
         }
         let nodes = update.new_nodes();
@@ -166,7 +167,7 @@ impl Service {
     }
 
     /// Returns the body of the pending update, if one is.
-    pub(crate) fn pending_body(&self) -> Option<[u8; 145]>
+    pub(crate) fn pending_body(&self) -> Option<[u8; BODY_BYTES]>
         ensures { result ≡ pending_body (provided_of self.now) }
     {
         match &self.pending {
@@ -197,14 +198,14 @@ impl Service {
     pub(crate) fn install(
         &mut self,
         signature: [u8; 64],
-        said: &Option<Option<[u8; 32]>>,
+        stated: &Option<Option<[u8; 32]>>,
     ) -> Result<Reply, AllocError>
         requires { IsServing self.old }
         ensures served { IsServing self.new }
         ensures reply { IfOk result (λ reply. provider_outcome_of reply ≡
-            (install_on (provided_of self.old) signature said.now (provided_of self.old).pending).outcome) }
+            (install_on (provided_of self.old) signature stated.now (provided_of self.old).pending).outcome) }
         ensures state { OnOk result (serving (provided_of self.new) ≡
-            (install_on (provided_of self.old) signature said.now (provided_of self.old).pending).state) }
+            (install_on (provided_of self.old) signature stated.now (provided_of self.old).pending).state) }
     {
         let Some(Pending { update, body }) = self.pending.take() else {
             return Ok(Reply::NotPrepared);
@@ -215,7 +216,7 @@ impl Service {
         };
         let linked = LinkedEntry::new(entry);
         let link = linked.link();
-        if !agrees(said, &link.0) {
+        if !agrees(stated, &link.0) {
             let pending = Pending { update, body };
             self.pending = Some(pending);
             return Ok(Reply::ReplayDiffers);
@@ -287,11 +288,11 @@ impl Service {
     pub(crate) fn latest(&self) -> Reply
         ensures { provider_outcome_of result ≡ latest_outcome (serving (provided_of self.now)) }
     {
-        Reply::Latest {
+        Reply::Latest(Latest {
             epoch: self.directory.latest_epoch(),
             link: self.directory.latest_link(),
             names: self.directory.source().count(),
             nodes: self.directory.nodes(),
-        }
+        })
     }
 }

@@ -10,11 +10,11 @@ ghost use Rattle.coniks_provider.specs.Stores.{batch_line_of};
 ghost use Rattle.coniks_provider.specs.Turns.{bindings_with, install_with, is_logged, latest_outcome, nothing, prepare_with, provider_lookup_with, provider_open_with, restore_with, restored_turn, restoring_with, withdraw_turn};
 
 use crate::batch::{Operations, ReadBatch};
-use crate::held::{Held, take_restore};
 use crate::reply::Reply;
-use crate::restoring::Restore;
+use crate::restoring::{Beginning, Restore};
 use crate::service::Service;
-use coniks_chain::Entry;
+use crate::stage::{Stage, take_restore};
+use coniks_chain::{BODY_BYTES, Entry};
 use coniks_programs::refusal::Refusal;
 use coniks_threads::Parallelism;
 use std::alloc::{AllocError, Global};
@@ -25,7 +25,7 @@ use std::thread::Threads;
 #[derive(Drop)]
 pub(crate) struct Store {
     alloc: Global,
-    held: Held,
+    stage: Stage,
 }
 
 impl Model for Store {
@@ -35,9 +35,9 @@ impl Model for Store {
 
     ghost use Rattle.coniks_provider.specs.Stores.{IsServingIf, provider_state_of};
 
-    ghost view = { λ s. provider_state_of s.held };
+    ghost view = { λ s. provider_state_of s.stage };
 
-    ghost invariant = { λ s. IsServingIf s.held };
+    ghost invariant = { λ s. IsServingIf s.stage };
 }
 
 impl Store {
@@ -47,7 +47,7 @@ impl Store {
     {
         Store {
             alloc,
-            held: Held::Nothing,
+            stage: Stage::Nothing,
         }
     }
 
@@ -56,9 +56,9 @@ impl Store {
         ensures on { result ≡ true → self.now ≡ nothing }
         ensures off { result ≡ false → self.now ≢ nothing }
     {
-        match &self.held {
-            Held::Nothing => true,
-            Held::Restoring(_) | Held::Open(_) => false,
+        match &self.stage {
+            Stage::Nothing => true,
+            Stage::Restoring(_) | Stage::Open(_) => false,
         }
     }
 
@@ -70,7 +70,7 @@ impl Store {
         if !self.is_free() {
             return Reply::Refused(Refusal::AlreadyOpen);
         }
-        self.held = Held::Open(Service::open(self.alloc, is_logged, nonce, policy));
+        self.stage = Stage::Open(Service::open(self.alloc, is_logged, nonce, policy));
         Reply::Opened
     }
 
@@ -84,7 +84,7 @@ impl Store {
         ensures reply { IfOk result (λ reply. provider_outcome_of reply ≡ (prepare_with self.old (batch_line_of line)).outcome) }
         ensures state { OnOk result (self.new ≡ (prepare_with self.old (batch_line_of line)).state) }
     {
-        let Held::Open(service) = &mut self.held else {
+        let Stage::Open(service) = &mut self.stage else {
             return Ok(Reply::Refused(Refusal::NotOpen));
         };
         service.prepare(rt, parallelism, line)
@@ -99,7 +99,7 @@ impl Store {
         ensures reply { IfOk result (λ reply. provider_outcome_of reply ≡ (install_with self.old signature link.now).outcome) }
         ensures state { OnOk result (self.new ≡ (install_with self.old signature link.now).state) }
     {
-        let Held::Open(service) = &mut self.held else {
+        let Stage::Open(service) = &mut self.stage else {
             return Ok(Reply::Refused(Refusal::NotOpen));
         };
         service.install(signature, link)
@@ -109,9 +109,9 @@ impl Store {
     pub(crate) fn is_logged(&self) -> bool
         ensures { result ≡ is_logged self.now }
     {
-        match &self.held {
-            Held::Open(service) => service.is_logged(),
-            Held::Nothing | Held::Restoring(_) => false,
+        match &self.stage {
+            Stage::Open(service) => service.is_logged(),
+            Stage::Nothing | Stage::Restoring(_) => false,
         }
     }
 
@@ -119,19 +119,19 @@ impl Store {
     pub(crate) fn names(&self) -> usize
         ensures { result ≡ names_in self.now }
     {
-        match &self.held {
-            Held::Open(service) => service.names(),
-            Held::Nothing | Held::Restoring(_) => 0,
+        match &self.stage {
+            Stage::Open(service) => service.names(),
+            Stage::Nothing | Stage::Restoring(_) => 0,
         }
     }
 
     /// Returns the body of the pending update, if one is.
-    pub(crate) fn pending_body(&self) -> Option<[u8; 145]>
+    pub(crate) fn pending_body(&self) -> Option<[u8; BODY_BYTES]>
         ensures { result ≡ pending_in self.now }
     {
-        match &self.held {
-            Held::Open(service) => service.pending_body(),
-            Held::Nothing | Held::Restoring(_) => None,
+        match &self.stage {
+            Stage::Open(service) => service.pending_body(),
+            Stage::Nothing | Stage::Restoring(_) => None,
         }
     }
 
@@ -139,9 +139,9 @@ impl Store {
     pub(crate) fn withdraw(&mut self) -> Reply
         ensures { Takes (withdraw_turn self.old) (provider_outcome_of result) self.new }
     {
-        match &mut self.held {
-            Held::Open(service) => service.withdraw(),
-            Held::Nothing | Held::Restoring(_) => Reply::Refused(Refusal::NotOpen),
+        match &mut self.stage {
+            Stage::Open(service) => service.withdraw(),
+            Stage::Nothing | Stage::Restoring(_) => Reply::Refused(Refusal::NotOpen),
         }
     }
 
@@ -154,9 +154,9 @@ impl Store {
     ) -> Result<Reply, AllocError>
         ensures { IfOk result (λ reply. provider_outcome_of reply ≡ provider_lookup_with self.now epoch name.now index) }
     {
-        match &self.held {
-            Held::Open(service) => service.look_up(self.alloc, epoch, name, index),
-            Held::Nothing | Held::Restoring(_) => Ok(Reply::Refused(Refusal::NotOpen)),
+        match &self.stage {
+            Stage::Open(service) => service.look_up(self.alloc, epoch, name, index),
+            Stage::Nothing | Stage::Restoring(_) => Ok(Reply::Refused(Refusal::NotOpen)),
         }
     }
 
@@ -164,9 +164,9 @@ impl Store {
     pub(crate) fn latest(&self) -> Reply
         ensures { provider_outcome_of result ≡ latest_outcome self.now }
     {
-        match &self.held {
-            Held::Open(service) => service.latest(),
-            Held::Nothing | Held::Restoring(_) => Reply::Refused(Refusal::NotOpen),
+        match &self.stage {
+            Stage::Open(service) => service.latest(),
+            Stage::Nothing | Stage::Restoring(_) => Reply::Refused(Refusal::NotOpen),
         }
     }
 
@@ -180,9 +180,9 @@ impl Store {
         requires { most ≤ MAX_OPERATIONS }
         ensures { IfOk result (λ reply. provider_outcome_of reply ≡ bindings_with self.now epoch after most) }
     {
-        match &self.held {
-            Held::Open(service) => service.bindings(self.alloc, epoch, after, most),
-            Held::Nothing | Held::Restoring(_) => Ok(Reply::Refused(Refusal::NotOpen)),
+        match &self.stage {
+            Stage::Open(service) => service.bindings(self.alloc, epoch, after, most),
+            Stage::Nothing | Stage::Restoring(_) => Ok(Reply::Refused(Refusal::NotOpen)),
         }
     }
 
@@ -195,11 +195,11 @@ impl Store {
             return Ok(Reply::Refused(Refusal::AlreadyOpen));
         }
         match Restore::begin(self.alloc, is_logged, entry)? {
-            Ok(restore) => {
-                self.held = Held::Restoring(restore);
+            Beginning::Begun(restore) => {
+                self.stage = Stage::Restoring(restore);
                 Ok(Reply::Restore)
             }
-            Err(refused) => Ok(refused),
+            Beginning::Refused(reply) => Ok(reply),
         }
     }
 
@@ -209,7 +209,7 @@ impl Store {
             (restoring_with self.old (indexed read.ops.items read.indices.items)).outcome) }
         ensures state { OnOk result (self.new ≡ (restoring_with self.old (indexed read.ops.items read.indices.items)).state) }
     {
-        let Held::Restoring(restore) = &mut self.held else {
+        let Stage::Restoring(restore) = &mut self.stage else {
             return Ok(Reply::NotRestoring);
         };
         restore.add(read)
@@ -226,11 +226,11 @@ impl Store {
         ensures reply { IfOk result (λ reply. provider_outcome_of reply ≡ (restored_turn self.old).outcome) }
         ensures state { OnOk result (self.new ≡ (restored_turn self.old).state) }
     {
-        let Some(restore) = take_restore(&mut self.held) else {
+        let Some(restore) = take_restore(&mut self.stage) else {
             return Ok(Reply::NotRestoring);
         };
-        let (held, reply) = restore.finish(rt, parallelism)?;
-        self.held = held;
+        let (stage, reply) = restore.finish(rt, parallelism)?;
+        self.stage = stage;
         Ok(reply)
     }
 }

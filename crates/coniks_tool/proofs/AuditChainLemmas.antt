@@ -105,18 +105,18 @@ accepted-chain s (line ∷ lines) =
 -- each line contains an entry, and the entries continue from a state
 record HoldsOn (s : AuditState) (lines : List (List ℕ)) : Type 0 where
   pub entries : List Entry
-  pub held : map entry_on lines ≡ map Some entries
+  pub stored : map entry_on lines ≡ map Some entries
   pub good : GoesOn s entries
 
 all-holds : (s : AuditState) (lines : List (List ℕ)) → all_accepted audit_answer s lines ≡ true → HoldsOn s lines
-all-holds s [] all = record { entries = []; held = refl; good = λ k e at. absurd (false≢true (ap is_some at)) }
+all-holds s [] all = record { entries = []; stored = refl; good = λ k e at. absurd (false≢true (ap is_some at)) }
 all-holds s (line ∷ lines) all =
     let t = audit_turn s line in
     let two = and_parts (is_audited t.outcome) (all_accepted audit_answer t.state lines) all in
     let taken = (line_says s line).0 two.0 in
     let rest = all-holds t.state lines two.1 in
-    let held : entry_on line ∷ map entry_on lines ≡ Some taken.entry ∷ map Some rest.entries = rw (taken.there, rest.held) refl in
-    record { entries = taken.entry ∷ rest.entries; held = held; good = goes_on-cons s t.state taken.entry rest.entries taken.faultless taken.then_is rest.good }
+    let stored : entry_on line ∷ map entry_on lines ≡ Some taken.entry ∷ map Some rest.entries = rw (taken.there, rest.stored) refl in
+    record { entries = taken.entry ∷ rest.entries; stored = stored; good = goes_on-cons s t.state taken.entry rest.entries taken.faultless taken.then_is rest.good }
 
 first_same : (a b : Option Entry) (xs ys : List (Option Entry)) → a ∷ xs ≡ b ∷ ys → a ≡ b
 first_same a b xs ys same = cc
@@ -128,18 +128,18 @@ is_empty : List (Option Entry) → Bool
 is_empty [] = true
 is_empty (x ∷ xs) = false
 
-none_held : (x : Option Entry) (xs : List (Option Entry)) → x ∷ xs ≡ [] → ⊥
+none_stored : (x : Option Entry) (xs : List (Option Entry)) → x ∷ xs ≡ [] → ⊥
 unfolding is_empty
-none_held x xs same = false≢true (ap is_empty same)
+none_stored x xs same = false≢true (ap is_empty same)
 
 holds-all : (s : AuditState) (lines : List (List ℕ)) (es : List Entry) → map entry_on lines ≡ map Some es → GoesOn s es → all_accepted audit_answer s lines ≡ true
-holds-all s [] es held good = refl
-holds-all s (line ∷ lines) [] held good = absurd (none_held (entry_on line) (map entry_on lines) held)
-holds-all s (line ∷ lines) (e ∷ es) held good =
-    let there = first_same (entry_on line) (Some e) (map entry_on lines) (map Some es) held in
+holds-all s [] es stored good = refl
+holds-all s (line ∷ lines) [] stored good = absurd (none_stored (entry_on line) (map entry_on lines) stored)
+holds-all s (line ∷ lines) (e ∷ es) stored good =
+    let there = first_same (entry_on line) (Some e) (map entry_on lines) (map Some es) stored in
     let took = takes_object s (object_in line) e there (follows-none (is_seal s.key) s.before e (good zero e refl)) in
     let rest : GoesOn (audit_turn s line).state es = subst (λ state. GoesOn state es) (sym took.1) (continues-tail sha256 (is_seal s.key) s.before e es good) in
-    rw took.0 (holds-all (audit_turn s line).state lines es (rest_same (entry_on line) (Some e) (map entry_on lines) (map Some es) held) rest)
+    rw took.0 (holds-all (audit_turn s line).state lines es (rest_same (entry_on line) (Some e) (map entry_on lines) (map Some es) stored) rest)
 
 -- a run that replies to all lines returns true exactly if the lines contain a good chain
 pub all-chain : (key input : List ℕ) (old new : Sink) (start state : AuditState) (result : Result Bool LineFault)
@@ -149,7 +149,7 @@ all-chain key input old new start state (Ok all) at answers =
     let all_is : all ≡ all_accepted audit_answer (none_audited key) (lines_of input) = subst (λ (s : AuditState). all ≡ all_accepted audit_answer s (lines_of input)) at answers.all_is in (
       λ is.
           let h = all-holds (none_audited key) (lines_of input) (sym all_is ∙ is) in
-          record { entries = h.entries; held = h.held; good = h.good },
-      λ h. all_is ∙ holds-all (none_audited key) (lines_of input) h.entries h.held h.good,
+          record { entries = h.entries; stored = h.stored; good = h.good },
+      λ h. all_is ∙ holds-all (none_audited key) (lines_of input) h.entries h.stored h.good,
     )
 all-chain key input old new start state (Err fault) at answers = tt

@@ -40,7 +40,7 @@ byte-within low high text small is = by (starts_with_minus text) refl
     by : (b : Bool) → starts_with_minus text ≡ b → (low ≤ byte_or_zero text) × (byte_or_zero text ≤ high)
     by true minus =
         let least = rw minus at is.2 in
-        let read : 0 ≡ byte_or_zero text = byte_read {E = Unit {0}} text (Err tt) (λ told. minus-isnt text minus told.0) in
+        let read : 0 ≡ byte_or_zero text = byte_read {E = Unit {0}} text (Err tt) (λ reported. minus-isnt text minus reported.0) in
         (omega (arith, ints), omega arith)
     by false minus =
         let least = rw minus at is.2 in

@@ -38,7 +38,7 @@ fault_in (no_member m) = None
 fault_in (at_fault fault) = Some fault
 
 module _ (s : MonitorState) (entry : Entry) (proof : Proof) where
-  -- a sound step is watched, and its entry kept
+  -- a sound step is watched, and its entry retained
   pub sound-step : IsSoundStep sha256 (is_seal s.key) s.before s.name s.index entry proof (answer_of proof.end)
       → step_turn s entry proof ≡ record { outcome = watched entry.body.t (seen_of s.expected (answer_of proof.end)); state = record s { before = Some (auditor_after sha256 entry) } }
   sound-step sound =
@@ -90,8 +90,8 @@ module _ (s : MonitorState) (entry : Entry) (proof : Proof) where
   audited_first fault None is some = checked_first fault of_proof refl (none-follows (is_seal s.key) s.before entry is) some
 
   -- the error that is returned is the first
-  pub told-first : (fault : MonitorFault) → (step_turn s entry proof).outcome ≡ at_fault fault → First fault
-  told-first fault same = audited_first fault of_entry refl (ap fault_in same)
+  pub reported-first : (fault : MonitorFault) → (step_turn s entry proof).outcome ≡ at_fault fault → First fault
+  reported-first fault same = audited_first fault of_entry refl (ap fault_in same)
 
-  pub first-told : (fault : MonitorFault) → First fault → (step_turn s entry proof).outcome ≡ at_fault fault
-  first-told fault first = ap (λ (t : MonitorTurn). t.outcome) (refused-step fault first)
+  pub first-reported : (fault : MonitorFault) → First fault → (step_turn s entry proof).outcome ≡ at_fault fault
+  first-reported fault first = ap (λ (t : MonitorTurn). t.outcome) (refused-step fault first)

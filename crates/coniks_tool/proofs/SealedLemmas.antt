@@ -59,8 +59,8 @@ module _ (key policy : List ℕ) where
     -- an entry of an epoch whose signature verifies is the sealed one
     sealed_is : (before : Option AuditorState) (s : Shown) (e : Entry) → e.body ≡ body_of sha256 (demo_index key) policy before s → Follows verdict before e → e ≡ entry_after key policy before s
     sealed_is before s e body follows =
-        let said : verdict (body_bytes e.body) e.signature.0 ≡ true = follows.rows.1.1.1.1.1.1.1.0 in
-        let seal : e.signature.0 ≡ seal_of key (body_bytes e.body) = (bytes_eq-Decides e.signature.0 (seal_of key (body_bytes e.body))).0 (sym (own (body_bytes e.body) e.signature.0) ∙ said) in
+        let stated : verdict (body_bytes e.body) e.signature.0 ≡ true = follows.rows.1.1.1.1.1.1.1.0 in
+        let seal : e.signature.0 ≡ seal_of key (body_bytes e.body) = (bytes_eq-Decides e.signature.0 (seal_of key (body_bytes e.body))).0 (sym (own (body_bytes e.body) e.signature.0) ∙ stated) in
         ap (λ (x : List ℕ). signed e.body (record { 0 = x })) seal ∙ ap (λ (b : Body). signed b (record { 0 = seal_of key (body_bytes b) })) body
 
     -- a good chain of a history is the sealed one

@@ -29,7 +29,7 @@ use Rattle.coniks_tool.specs.Demo.{demo_index}
 use Rattle.coniks_programs.specs.Refusals.{Refusal, epoch_not_later}
 use Rattle.coniks_tool.specs.Refusals.{IsRefusedBy, refusal}
 use Rattle.coniks_tool.specs.ScriptReplies.{because, installed}
-use Rattle.coniks_tool.specs.Script.{Installs, ScriptDirectory, ScriptState as Held, ScriptTurn, batch_on, batch_with, shown_next as shown_epoch}
+use Rattle.coniks_tool.specs.Script.{Installs, ScriptDirectory, ScriptState as Stage, ScriptTurn, batch_on, batch_with, shown_next as shown_epoch}
 use Rattle.coniks_programs.specs.Turns.{refused}
 use Rattle.coniks_tool.specs.Seal.{is_seal}
 use Rattle.coniks_tool.specs.Stores.{opened_by, opened_of, shown_on, script_state_of}
@@ -144,16 +144,16 @@ pub made_and_room : {H X P : Type 0} (index : X → List ℕ → List ℕ) (resu
     → IfErr result (λ fault. (made' ≡ made) × (refused' ≡ refused + commit_refusals fault) × (last' ≡ last)) → OnErr result ((v' ≡ v) × (p' ≡ p))
     → made ≡ length v.state.chain → length v.state.chain ≤ most_epochs → published ≡ length v.state.chain
     → capacity ≡ most_epochs → (made' ≡ length v'.state.chain) × (length v'.state.chain ≤ most_epochs)
-made_and_room {H} {X} {P} index (Ok e) v v' p p' ops made made' refused refused' depth workers epoch published capacity last last' one more outcome kept same own most long full =
+made_and_room {H} {X} {P} index (Ok e) v v' p p' ops made made' refused refused' depth workers epoch published capacity last last' one more outcome retained same own most long full =
     let longer : length v'.state.chain ≡ length v.state.chain + 1 = ap length more ∙ length-append v.state.chain (e ∷ []) in
     let room : published ≢ most_epochs = subst (λ n. published ≢ n) full outcome.may.room in
     (omega arith, below (length v.state.chain) (length v'.state.chain) longer most (λ at. room (long ∙ at)))
   where
     below : (n m : ℕ) → m ≡ n + 1 → n ≤ 1024 → (n ≡ 1024 → ⊥) → m ≤ 1024
     below n m next most apart = grind (arith, nat_tests)
-made_and_room {H} {X} {P} index (Err e) v v' p p' ops made made' refused refused' depth workers epoch published capacity last last' one more outcome kept same own most long full =
+made_and_room {H} {X} {P} index (Err e) v v' p p' ops made made' refused refused' depth workers epoch published capacity last last' one more outcome retained same own most long full =
     let long' : length v'.state.chain ≡ length v.state.chain = ap (λ (w : View H X). length w.state.chain) same.0 in
-    (kept.0 ∙ own ∙ sym long', omega arith)
+    (retained.0 ∙ own ∙ sym long', omega arith)
 
 -- any error of a commit
 pub refused_by : {H X P : Type 0} (index : X → List ℕ → List ℕ) (index_of' : List ℕ → List ℕ) (v v' : View H X) (p p' : P) (ops : List Op)
@@ -194,20 +194,20 @@ abbrev pub turn_of : Entry → ScriptDirectory → ScriptTurn
 turn_of entry o = record { outcome = installed entry (sha256 (link_preimage entry)); state = Some o }
 
 -- an installed batch
-pub installed_turn : (o o' : ScriptDirectory) (b : Batch) (entry : Entry) (v : Held) → v ≡ Some o → Installs o b entry o' → batch_with v b ≡ turn_of entry o'
+pub installed_turn : (o o' : ScriptDirectory) (b : Batch) (entry : Entry) (v : Stage) → v ≡ Some o → Installs o b entry o' → batch_with v b ≡ turn_of entry o'
 installed_turn o o' b entry v same i =
-    ap (λ (s : Held). batch_with s b) same
+    ap (λ (s : Stage). batch_with s b) same
     ∙ ap (batch_on o b) i.faultless
     ∙ ap (λ (e : Entry). turn_of e (record o { history = o.history ++ shown_epoch o b ∷ [] })) (sym i.entry_is)
     ∙ ap (turn_of entry) (sym i.state_is)
 
 -- the reply to a refused batch gives the reason, and the state is unchanged
-pub refused_turn : (o : ScriptDirectory) (b : Batch) (v : Held) (told : Refusal) → v ≡ Some o → refusal (demo_index o.key) o.history b.t b.ops ≡ Some told
-    → batch_with v b ≡ refused (Some o) (because told)
-refused_turn o b v told same why = ap (λ (s : Held). batch_with s b) same ∙ ap (batch_on o b) why
+pub refused_turn : (o : ScriptDirectory) (b : Batch) (v : Stage) (reported : Refusal) → v ≡ Some o → refusal (demo_index o.key) o.history b.t b.ops ≡ Some reported
+    → batch_with v b ≡ refused (Some o) (because reported)
+refused_turn o b v reported same why = ap (λ (s : Stage). batch_with s b) same ∙ ap (batch_on o b) why
 
 -- the view of an open store
-pub shown_open : (opened : Option Service) (service : Service) (v : Held) → Some service ≡ opened → script_state_of opened ≡ v → v ≡ Some (opened_of service)
+pub shown_open : (opened : Option Service) (service : Service) (v : Stage) → Some service ≡ opened → script_state_of opened ≡ v → v ≡ Some (opened_of service)
 shown_open opened service v same view = sym view ∙ ap script_state_of (sym same)
 
 -- a service that isn't there is None

@@ -11,7 +11,7 @@ use Rattle.coniks_tool.specs.Audit.{AuditState, audit_answer}
 -- each line holds an entry, and the entries are a good chain under the seal of the key
 pub record HoldsGoodChain (key : Octets) (lines : List Octets) : Type 0 where
   pub entries : List Entry
-  pub held : map entry_on lines ≡ map Some entries
+  pub stored : map entry_on lines ≡ map Some entries
   pub good : GoodChain sha256 (is_seal key) entries
 
 -- the entry, if there is one and its line was accepted

@@ -4,7 +4,7 @@ use Rattle.coniks_proof.specs.Octets.{Octets}
 use Rattle.serde_json.specs.Data.{Data, string, object, member, no_members}
 use Rattle.base64.specs.GeneralPurpose.{encode_of}
 use Rattle.base64.specs.Engines.{standard}
-use Rattle.coniks_proof.specs.Proofs.{said}
+use Rattle.coniks_proof.specs.Proofs.{stated}
 use Rattle.coniks_proof.specs.declared.checker.CheckFault.{CheckFault}
 use Rattle.coniks_proof.specs.declared.checker.CheckFault.TheVariants.{TooDeep, NameLength, KeyLength, WrongName, OtherIsSame, OtherOffPath, RootMismatch}
 use Rattle.coniks_programs.specs.Replies.{fault_data, bad_member_data, member_name}
@@ -25,7 +25,7 @@ pub data CheckOutcome : Type 0 where
 
 -- a reply, with the answer as the definitions of proofs see it
 abbrev pub check_outcome : CheckReply → CheckOutcome
-check_outcome (reply.Answered answer) = answered (said answer)
+check_outcome (reply.Answered answer) = answered (stated answer)
 check_outcome reply.NotJson = not_json
 check_outcome (reply.NoMember m) = no_member m
 check_outcome (reply.AtFault fault) = at_fault fault

@@ -68,17 +68,17 @@ chosen = option_and_then (λ met. choice_by met.0 met.1)
 abbrev pub key_in : Octets → Option Octets
 key_in text = result_ok (decode_sized text 32)
 
--- a key is asked for, and its text isn't one
+-- a key is requested, and its text isn't one
 abbrev pub lacks_key : Option Choice → Bool
 lacks_key (Some (audit key)) = is_none (key_in key)
 lacks_key (Some (monitor key name expect)) = is_none (key_in key)
 lacks_key _ = false
 
--- a key is asked for and given, and the text of the expectation isn't base64
+-- a key is requested and given, and the text of the expectation isn't base64
 abbrev pub lacks_expectation : Option Choice → Bool
 lacks_expectation (Some (monitor key name expect)) = is_some (key_in key) && is_none (expectation_in expect)
 lacks_expectation _ = false
 
--- a key or an expectation is asked for, and its text isn't one
+-- a key or an expectation is requested, and its text isn't one
 abbrev pub Lacks : Option Choice → Type 0
 Lacks choice = (lacks_key choice ≡ true) ⊎ (lacks_expectation choice ≡ true)

@@ -1,18 +1,9 @@
 -- The command line of the program, as `clap`'s definitions see it.
-use Rattle.std.specs.Prelude.{ℤ, Bool, codes, pos, false, true, [], ◌∷◌, Some}
+use Rattle.std.specs.Prelude.{Bool, codes, pos, false, true, [], ◌∷◌, Some}
 use Rattle.coniks_proof.specs.Octets.{Octets}
 use Rattle.clap.specs.Words.{App, Rule, new_app, new_rule, with_rule, with_subcommand}
 use Rattle.clap.specs.Simple.{on_top}
-use Rattle.clap.specs.declared.builder.value_parser.ValueParser.TheVariants as parser
-
--- an option with this name, the range of its number, and its default
-abbrev pub number_rule : Octets → Octets → ℤ → ℤ → Rule
-number_rule name missing least most = record (new_rule name) {
-  long = Some name;
-  value_names = 1;
-  defaults = missing ∷ [];
-  parser = Some (parser.Signed least most);
-}
+use Rattle.coniks_programs.specs.Commands.{number_rule}
 
 -- an option of this name, a text, and whether it is required
 abbrev pub text_rule : Octets → Bool → Rule
@@ -24,11 +15,11 @@ text_rule name required = record (new_rule name) {
 
 -- `--workers`, a number from 1 to 64
 abbrev pub workers_rule : Rule
-workers_rule = number_rule (codes "workers") (codes "1") (pos 1) (pos 64)
+workers_rule = record (number_rule (codes "workers") (pos 1) (pos 64)) { defaults = codes "1" ∷ [] }
 
 -- `--depth`, a number from 0 to 12
 abbrev pub depth_rule : Rule
-depth_rule = number_rule (codes "depth") (codes "0") (pos 0) (pos 12)
+depth_rule = record (number_rule (codes "depth") (pos 0) (pos 12)) { defaults = codes "0" ∷ [] }
 
 -- `run`, which has workers and a depth
 abbrev pub run_app : App

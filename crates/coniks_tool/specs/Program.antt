@@ -2,7 +2,7 @@
 use Rattle.std.specs.Prelude.{◌≡◌, ◌⊎◌, List, Bool, true, codes, Option, Some, None, Ok, Err}
 use Rattle.coniks_proof.specs.Octets.{Octets}
 use Rattle.clap.specs.Words.{subcommand_of}
-use Rattle.coniks_programs.specs.Endings.{EndsFor, Outcome}
+use Rattle.coniks_programs.specs.Endings.{EndsFor, Outcome, line_of}
 use Rattle.coniks_programs.specs.Help.{IsIdle, NeverBegins}
 use Rattle.coniks_programs.specs.declared.cli.arguments.Unread.{Unread}
 use Rattle.coniks_programs.specs.declared.cli.arguments.Unread.TheVariants as unread
@@ -10,7 +10,7 @@ use Rattle.coniks_programs.specs.declared.cli.ending.Ending.TheVariants.{Done, R
 use Rattle.coniks_programs.specs.Faults.{FailsOn, FailsWithBoard}
 use Rattle.coniks_lines.specs.Runs.{EndsWell, Streams}
 use Rattle.coniks_programs.specs.declared.fault.RunFault.{RunFault}
-use Rattle.coniks_programs.specs.declared.fault.RunFault.TheVariants.{Read, Write, OutOfMemory, NoBoard}
+use Rattle.coniks_programs.specs.declared.fault.RunFault.TheVariants.{OutOfMemory}
 use Rattle.coniks_tool.specs.Audit.{AuditState, audit_answer, none_audited}
 use Rattle.coniks_tool.specs.Check.{Stateless, check_answer, stateless}
 use Rattle.coniks_tool.specs.Choice.{Choice, run, check, audit, monitor, chosen, key_in, lacks_key, lacks_expectation}
@@ -21,10 +21,7 @@ use Rattle.coniks_tool.specs.Script.{ScriptState, script_answer}
 
 -- the line for an error
 abbrev pub fault_line : RunFault → Octets
-fault_line Read = codes "keydir: read failed\n"
-fault_line Write = codes "keydir: write failed\n"
-fault_line OutOfMemory = codes "keydir: out of memory\n"
-fault_line NoBoard = codes "keydir: no board\n"
+fault_line = line_of (codes "keydir")
 
 -- the line for arguments that cannot be read
 abbrev pub unread_line : Unread → Octets

@@ -51,7 +51,7 @@ IsServedIf published None = published.heads ≡ []
 IsServedIf published (Some s) = IsServed published s
 
 -- the board is the publisher's, and what is opened is served
-pub record IsKept (board : Boarded) (published : BoardEnd) (opened : Option Service) : Type 0 where
+pub record IsRetained (board : Boarded) (published : BoardEnd) (opened : Option Service) : Type 0 where
   pub table : published.table ≡ board.table
   pub capacity : board.capacity ≡ most_epochs
   pub served : IsServedIf published opened

@@ -2,8 +2,8 @@
 
 pub(crate) mod choice;
 pub(crate) mod command;
-pub(crate) mod ending;
 pub(crate) mod help;
+pub(crate) mod keydir;
 pub(crate) mod running;
 pub(crate) mod settings;
 pub(crate) mod statuses;

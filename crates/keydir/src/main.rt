@@ -1,25 +1,14 @@
-//! The program `keydir`, which passes its arguments and streams to `coniks_tool::program`.
+//! The program `keydir`, which starts `coniks_tool::Keydir` over the standard streams.
 #![tactic(auto)]
 
-use coniks_tool::{SystemIn, SystemOut, program, unread_words, words};
+use coniks_tool::{Keydir, SystemIn, SystemOut, start};
 use std::process::ExitCode;
 
 /// Runs `keydir` on the arguments and the standard streams, and returns its exit status.
 fn main(rt: HostRuntime) -> ExitCode {
-    let mut errors = SystemOut::new(rt.stderr());
-    let words = match words(&rt) {
-        Ok(words) => words,
-        Err(why) => return ExitCode::from(unread_words(why, &mut errors)),
-    };
+    let keydir = Keydir::new(&rt, rt.alloc());
     let mut reader = SystemIn::new(rt.stdin());
     let mut writer = SystemOut::new(rt.stdout());
-    let status = program(
-        &rt,
-        rt.alloc(),
-        words.as_slice(),
-        &mut reader,
-        &mut writer,
-        &mut errors,
-    );
-    ExitCode::from(status)
+    let mut errors = SystemOut::new(rt.stderr());
+    ExitCode::from(start(&rt, &keydir, &mut reader, &mut writer, &mut errors))
 }

@@ -1,25 +1,14 @@
-//! The program `provider`, which passes its arguments and streams to `coniks_provider::program`.
+//! The program `provider`, which starts `coniks_provider::Provider` over the standard streams.
 #![tactic(auto)]
 
-use coniks_provider::{SystemIn, SystemOut, program, unread_words, words};
+use coniks_provider::{Provider, SystemIn, SystemOut, start};
 use std::process::ExitCode;
 
 /// Runs `provider` on the arguments and the standard streams, and returns its exit status.
 fn main(rt: HostRuntime) -> ExitCode {
-    let mut errors = SystemOut::new(rt.stderr());
-    let words = match words(&rt) {
-        Ok(words) => words,
-        Err(why) => return ExitCode::from(unread_words(why, &mut errors)),
-    };
+    let provider = Provider::new(&rt, rt.alloc());
     let mut reader = SystemIn::new(rt.stdin());
     let mut writer = SystemOut::new(rt.stdout());
-    let status = program(
-        &rt,
-        rt.alloc(),
-        words.as_slice(),
-        &mut reader,
-        &mut writer,
-        &mut errors,
-    );
-    ExitCode::from(status)
+    let mut errors = SystemOut::new(rt.stderr());
+    ExitCode::from(start(&rt, &provider, &mut reader, &mut writer, &mut errors))
 }

@@ -1,13 +1,16 @@
 //! The texts of `clap`.
 
-ghost use Rattle.std.specs.Prelude.{◌≢◌, ◌+◌, ◌<◌, ◌^◌, [], IfOk};
+ghost use Rattle.std.specs.Prelude.{◌≡◌, ◌≢◌, ◌+◌, ◌<◌, ◌^◌, ℕ, List, [], IfOk, true};
 ghost use Rattle.std.specs.String.{string_bytes};
-ghost use Rattle.clap.specs.Words.{kind_of};
+ghost use Rattle.clap.specs.Words.{App, fault_of, kind_of, takes};
 ghost use Rattle.coniks_lines.specs.Known.{Source};
 ghost use Rattle.coniks_lines.specs.Runs.{streams};
-ghost use Rattle.coniks_programs.specs.Endings.{Explains};
+ghost use Rattle.coniks_programs.specs.Endings.{EndsUnrun, Explains};
+ghost use Rattle.coniks_programs.specs.WordsFaults.{IsRefusal};
+ghost use Rattle.coniks_programs.specs.declared.cli.refusing.WordsFault.TheVariants.{OutOfMemory};
 
 use crate::cli::ending::Ending;
+use crate::cli::refusing::WordsFault;
 use crate::cli::telling::tell;
 use crate::fault::{RunFault, of_lines};
 use clap::Error;
@@ -47,5 +50,27 @@ pub fn explain<W: ByteOut>(alloc: Global, error: &Error, writer: &mut W) -> Resu
     match tell(writer, text.as_str()) {
         Ok(()) => Ok(Ending::Done(true)),
         Err(fault) => Err(of_lines(fault)),
+    }
+}
+
+/// Ends a command line without settings: writes help or the version, or returns why the arguments are refused.
+///
+/// # Errors
+///
+/// - `Write` if the text could not be written to its end. A prefix of it was written.
+/// - `OutOfMemory` if an allocation failed. Nothing was written.
+pub fn end_unrun<W: ByteOut>(
+    alloc: Global,
+    fault: WordsFault,
+    writer: &mut W,
+) -> Result<Ending, RunFault>
+    requires { (W.sink writer.old).failed + 1 < 2 ^ 64 }
+    ensures { (app : App) (words : List (List ℕ)) (still : Source) → IsRefusal (fault_of app words) fault
+        → (takes app words ≡ true → fault ≡ OutOfMemory)
+        → EndsUnrun app words (streams still still (W.sink writer.old) (W.sink writer.new)) result }
+{
+    match fault {
+        WordsFault::Clap(error) => explain(alloc, &error, writer),
+        WordsFault::OutOfMemory => Err(RunFault::OutOfMemory),
     }
 }

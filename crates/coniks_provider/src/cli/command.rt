@@ -3,10 +3,10 @@
 ghost use Rattle.std.specs.Prelude.{◌≡◌, IfOk};
 ghost use Rattle.clap.specs.Words.{app_of};
 ghost use Rattle.coniks_programs.specs.Commands.{IsCommand, IsOption};
-ghost use Rattle.coniks_provider.specs.Command.{depth_rule, provider, replay_rule, top, workers_rule};
+ghost use Rattle.coniks_provider.specs.Command.{provider, replay_rule, top};
 
 use clap::{Arg, ArgAction, Command};
-use coniks_programs::cli::with_option;
+use coniks_programs::cli::{number_option, with_default, with_option};
 use coniks_threads::{MAX_DEPTH, MAX_WORKERS};
 use std::alloc::{AllocError, Global};
 
@@ -27,32 +27,12 @@ Status:
   2  the command line is wrong
   3  a stream or an allocation failed";
 
-/// Returns the option `--workers`, a number from 1 to 64.
-fn workers_option<'a>(alloc: Global) -> Arg<'a>
-    ensures { IsOption workers_rule result }
-{
-    let numbers = clap::value_parser!(u8);
-    Arg::new(alloc, "workers")
-        .long("workers")
-        .value_parser(numbers.range(1..=MAX_WORKERS as i64))
-        .value_name("1-64")
-        .help(
-            "The number of worker threads that build an epoch, 1 to 64; the default is the number of processors",
-        )
-}
+/// What `--workers` is.
+const WORKERS: &str =
+    "The number of worker threads that build an epoch, 1 to 64; the default is the number of processors";
 
-/// Returns the option `--depth`, a number from 0 to 12.
-fn depth_option<'a>(alloc: Global) -> Arg<'a>
-    ensures { IsOption depth_rule result }
-{
-    let numbers = clap::value_parser!(u8);
-    Arg::new(alloc, "depth")
-        .long("depth")
-        .value_parser(numbers.range(0..=MAX_DEPTH as i64))
-        .value_name("0-12")
-        .default_value("12")
-        .help("The split depth in bits, 0 to 12")
-}
+/// What `--depth` is.
+const DEPTH: &str = "The split depth in bits, 0 to 12";
 
 /// Returns the option `--replay`.
 fn replay_option<'a>(alloc: Global) -> Arg<'a>
@@ -80,7 +60,12 @@ fn bare_command<'a>(alloc: Global) -> Command<'a>
 pub(crate) fn command<'a>(alloc: Global) -> Result<Command<'a>, AllocError>
     ensures { IfOk result (λ command. app_of command ≡ provider) }
 {
-    let with_workers = with_option(Ok(bare_command(alloc)), workers_option(alloc));
-    let with_depth = with_option(with_workers, depth_option(alloc));
+    let numbers = clap::value_parser!(u8);
+    let many = numbers.range(1..=MAX_WORKERS as i64);
+    let deep = numbers.range(0..=MAX_DEPTH as i64);
+    let workers = number_option(alloc, "workers", many, "1-64", WORKERS);
+    let depth = number_option(alloc, "depth", deep, "0-12", DEPTH);
+    let with_workers = with_option(Ok(bare_command(alloc)), workers);
+    let with_depth = with_option(with_workers, with_default(depth, "12"));
     with_option(with_depth, replay_option(alloc))
 }

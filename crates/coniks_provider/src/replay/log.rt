@@ -7,6 +7,7 @@ ghost use Rattle.coniks_provider.specs.Replays.{after_first, check_named, check_
 use crate::claims::claim_in;
 use crate::replay::kind::Kind;
 use crate::replay::refusal::{Named, Why};
+use coniks_chain::BODY_BYTES;
 use coniks_programs::members::{digits32, number};
 use serde_json::Value;
 
@@ -73,7 +74,7 @@ pub(crate) fn check_named(kind: Kind, object: &Value) -> Result<(), Why>
     ensures { result ≡ check_named kind (view object.now) }
 {
     match kind {
-        Kind::Prepare => match claim_in::<145>(object, "body") {
+        Kind::Prepare => match claim_in::<BODY_BYTES>(object, "body") {
             Some(Some(_)) => Ok(()),
             _ => Err(Why::Member(Named::Body)),
         },

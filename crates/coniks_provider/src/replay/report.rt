@@ -4,19 +4,12 @@ ghost use Rattle.std.specs.Prelude.{◌≡◌, IfOk, None, Some};
 ghost use Rattle.serde_json.specs.Written.{compact_text};
 ghost use Rattle.coniks_provider.specs.Replays.{refused_text, replayed_data};
 
+use crate::latest::Latest;
 use crate::stored::put_last;
+use coniks_chain::BODY_BYTES;
 use coniks_programs::objects::{Field, Shown, object};
 use coniks_programs::printable::Printable;
 use std::alloc::{AllocError, Global};
-
-/// The latest epoch of a directory, as a replay prints it.
-#[derive(Clone, Copy)]
-pub(crate) struct Latest {
-    pub(crate) epoch: u64,
-    pub(crate) link: [u8; 32],
-    pub(crate) names: usize,
-    pub(crate) nodes: usize,
-}
 
 /// Returns the object for a refused line, which has this number, and its reply.
 pub(crate) fn refused(alloc: Global, line: u64, reply: &[u8]) -> Result<Printable, AllocError>
@@ -34,14 +27,14 @@ fn with_pending<'a>(
     body: &'a [u8],
     position: u64,
 ) -> Result<Printable, AllocError>
-    ensures { IfOk result (λ object. object.text.items ≡ compact_text (replayed_data latest.now.epoch latest.now.link latest.now.names
+    ensures { IfOk result (λ object. object.text.items ≡ compact_text (replayed_data latest.now.epoch latest.now.link.0 latest.now.names
         latest.now.nodes (Some body.now) position)) }
 {
     object(
         alloc,
         &[
             Field("epoch", Shown::Number(latest.epoch)),
-            Field("link", Shown::Digest(&latest.link)),
+            Field("link", Shown::Digest(&latest.link.0)),
             Field("names", Shown::Number(latest.names as u64)),
             Field("nodes", Shown::Number(latest.nodes as u64)),
             Field("ok", Shown::Text("replay")),
@@ -57,14 +50,14 @@ fn without_pending<'a>(
     latest: &'a Latest,
     position: u64,
 ) -> Result<Printable, AllocError>
-    ensures { IfOk result (λ object. object.text.items ≡ compact_text (replayed_data latest.now.epoch latest.now.link latest.now.names
+    ensures { IfOk result (λ object. object.text.items ≡ compact_text (replayed_data latest.now.epoch latest.now.link.0 latest.now.names
         latest.now.nodes None position)) }
 {
     object(
         alloc,
         &[
             Field("epoch", Shown::Number(latest.epoch)),
-            Field("link", Shown::Digest(&latest.link)),
+            Field("link", Shown::Digest(&latest.link.0)),
             Field("names", Shown::Number(latest.names as u64)),
             Field("nodes", Shown::Number(latest.nodes as u64)),
             Field("ok", Shown::Text("replay")),
@@ -77,10 +70,10 @@ fn without_pending<'a>(
 pub(crate) fn replayed(
     alloc: Global,
     latest: &Latest,
-    pending: &Option<[u8; 145]>,
+    pending: &Option<[u8; BODY_BYTES]>,
     position: u64,
 ) -> Result<Printable, AllocError>
-    ensures { IfOk result (λ object. object.text.items ≡ compact_text (replayed_data latest.now.epoch latest.now.link latest.now.names
+    ensures { IfOk result (λ object. object.text.items ≡ compact_text (replayed_data latest.now.epoch latest.now.link.0 latest.now.names
         latest.now.nodes pending.now position)) }
 {
     match pending {

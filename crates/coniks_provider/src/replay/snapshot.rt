@@ -6,7 +6,7 @@ ghost use Rattle.coniks_provider.specs.Replays.{after_bodies, after_entries, bod
 
 use crate::claims::log_in;
 use crate::replay::refusal::{Named, Why};
-use coniks_chain::{Entry, link};
+use coniks_chain::{BODY_BYTES, Entry, link};
 use coniks_programs::members::{array, bytes_of_digits, digits32, number};
 use coniks_proof::Sha256Hash;
 use serde_json::Value;
@@ -194,7 +194,7 @@ fn after_bodies(snapshot: Snapshot, elements: &[Value]) -> Result<Snapshot, Why>
 {
     let mut after = snapshot;
     for element in elements {
-        if digits_of::<145>(element).is_none() {
+        if digits_of::<BODY_BYTES>(element).is_none() {
             return Err(Why::Member(Named::Replaced));
         }
         let Some(next) = with_body(after) else {

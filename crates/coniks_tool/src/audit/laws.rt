@@ -13,7 +13,7 @@ ghost use Rattle.coniks_tool.specs.AuditFaults.{audit_fault};
 ghost use Rattle.coniks_tool.specs.Seal.{is_seal};
 
 /// Proves that an entry has no error if and only if it follows, and that the printed error is its first one.
-pub fn told_fault_is_the_first()
+pub fn reported_fault_is_the_first()
     ensures none { (verdict : Octets → Octets → Bool) (before : Option AuditorState) (entry : Entry)
         → (audit_fault verdict before entry ≡ None) ↔ Follows verdict before entry }
     ensures some { (verdict : Octets → Octets → Bool) (before : Option AuditorState) (entry : Entry) (fault : AuditFault)

@@ -13,7 +13,7 @@ ghost use Rattle.coniks_tool.specs.CheckFaults.{check_fault};
 /// Proves that a proof has no error if and only if it is accepted with the answer of its end.
 ///
 /// The printed error is its first one.
-pub fn told_fault_of_a_proof_is_the_first()
+pub fn reported_fault_of_a_proof_is_the_first()
     ensures none { (by : Hashing) (root index name : Octets) (proof : Proof)
         → (check_fault by root index name proof ≡ None) ↔ (Accepts by root index name proof (answer_of proof.end)) }
     ensures some { (by : Hashing) (root index name : Octets) (proof : Proof) (fault : CheckFault)

@@ -5,10 +5,10 @@ ghost use Rattle.serde_json.specs.View.{view};
 ghost use Rattle.serde_json.specs.Written.{compact_text};
 ghost use Rattle.coniks_lines.specs.Runs.{IsRunOf, streams};
 ghost use Rattle.coniks_programs.specs.Faults.{FailsOn};
-ghost use Rattle.coniks_tool.specs.Check.{Stateless, asked_by, asked_in, check_answer, question_outcome, stateless};
+ghost use Rattle.coniks_tool.specs.Check.{Stateless, requested_by, requested_in, check_answer, question_outcome, stateless};
 ghost use Rattle.coniks_tool.specs.CheckReplies.{check_data, check_outcome, is_answered};
 
-use crate::check::question::{Question, read_question};
+use crate::check::question::{Question, ReadQuestion, read_question};
 use crate::check::reply::CheckReply;
 use coniks_lines::{ByteIn, ByteOut, LineMachine, run_lines};
 use coniks_programs::fault::{RunFault, of_run};
@@ -25,7 +25,7 @@ pub struct Checking {
 
 /// Checks the proof of a question.
 fn judge<'q>(question: &'q Question<'_>) -> CheckReply<'q>
-    ensures { check_outcome result ≡ question_outcome (Ok (asked_by question.now)) }
+    ensures { check_outcome result ≡ question_outcome (Ok (requested_by question.now)) }
 {
     match check(
         &Sha256Hash,
@@ -70,12 +70,12 @@ impl LineMachine for Checking {
 
 /// Replies to a line that is an object.
 fn answer(alloc: Global, object: &Value, out: &mut Vec<u8>) -> Result<bool, AllocError>
-    ensures text { OnOk result (out.new.items ≡ out.old.items ++ compact_text (check_data (question_outcome (asked_in (view object.now))))) }
-    ensures accepted { IfOk result (λ accepted. accepted ≡ is_answered (question_outcome (asked_in (view object.now)))) }
+    ensures text { OnOk result (out.new.items ≡ out.old.items ++ compact_text (check_data (question_outcome (requested_in (view object.now))))) }
+    ensures accepted { IfOk result (λ accepted. accepted ≡ is_answered (question_outcome (requested_in (view object.now)))) }
 {
     match read_question(alloc, object)? {
-        Ok(question) => reply(alloc, &judge(&question), out),
-        Err(member) => reply(alloc, &CheckReply::NoMember(member), out),
+        ReadQuestion::Whole(question) => reply(alloc, &judge(&question), out),
+        ReadQuestion::BadMember(member) => reply(alloc, &CheckReply::NoMember(member), out),
     }
 }
 

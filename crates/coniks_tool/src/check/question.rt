@@ -2,7 +2,7 @@
 
 ghost use Rattle.std.specs.Prelude.{◌≡◌, IfOk};
 ghost use Rattle.serde_json.specs.View.{view};
-ghost use Rattle.coniks_tool.specs.Check.{asked_in, question_read};
+ghost use Rattle.coniks_tool.specs.Check.{requested_in, question_read};
 
 use coniks_programs::members::{digits32, text};
 use coniks_programs::printing::Member;
@@ -21,6 +21,15 @@ pub struct Question<'v> {
     pub proof: Proof,
 }
 
+/// The question of a line, as it was read.
+#[derive(Drop)]
+pub enum ReadQuestion<'v> {
+    /// Each member was read.
+    Whole(Question<'v>),
+    /// This member is the first bad one.
+    BadMember(Member),
+}
+
 /// Reads the question of a line, or returns the first bad member in the order `index`, `name`, `nonce`, `root`, `proof`.
 ///
 /// A bad member is missing, of another kind or of a wrong text.
@@ -28,28 +37,25 @@ pub struct Question<'v> {
 /// # Errors
 ///
 /// `AllocError` if an allocation fails.
-pub fn read_question<'v>(
-    alloc: Global,
-    object: &'v Value,
-) -> Result<Result<Question<'v>, Member>, AllocError>
-    ensures { IfOk result (λ question. question_read question ≡ asked_in (view object.now)) }
+pub fn read_question<'v>(alloc: Global, object: &'v Value) -> Result<ReadQuestion<'v>, AllocError>
+    ensures { IfOk result (λ question. question_read question ≡ requested_in (view object.now)) }
 {
     let Some(index) = digits32(object, "index") else {
-        return Ok(Err(Member::Index));
+        return Ok(ReadQuestion::BadMember(Member::Index));
     };
     let Some(name) = text(object, "name") else {
-        return Ok(Err(Member::Name));
+        return Ok(ReadQuestion::BadMember(Member::Name));
     };
     let Some(nonce) = digits32(object, "nonce") else {
-        return Ok(Err(Member::Nonce));
+        return Ok(ReadQuestion::BadMember(Member::Nonce));
     };
     let Some(root) = digits32(object, "root") else {
-        return Ok(Err(Member::Root));
+        return Ok(ReadQuestion::BadMember(Member::Root));
     };
     let Some(proof) = read_proof(alloc, object)? else {
-        return Ok(Err(Member::Proof));
+        return Ok(ReadQuestion::BadMember(Member::Proof));
     };
-    Ok(Ok(Question {
+    Ok(ReadQuestion::Whole(Question {
         index: Index(index),
         name,
         nonce: Nonce(nonce),

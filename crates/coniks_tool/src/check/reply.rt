@@ -2,7 +2,7 @@
 
 ghost use Rattle.std.specs.Prelude.{◌≡◌, IfOk};
 ghost use Rattle.serde_json.specs.Written.{compact_text};
-ghost use Rattle.coniks_proof.specs.Proofs.{said};
+ghost use Rattle.coniks_proof.specs.Proofs.{stated};
 ghost use Rattle.coniks_tool.specs.CheckReplies.{answer_data, key_data, check_data, check_fault_name, check_outcome};
 
 use coniks_programs::objects::{Field, Shown, object};
@@ -56,7 +56,7 @@ impl CheckReply<'_> {
 
 /// Returns the object of an accepted proof.
 fn answer_value(alloc: Global, answer: &Answer<'_>) -> Result<Printable, AllocError>
-    ensures { IfOk result (λ object. object.text.items ≡ compact_text (answer_data (said answer.now))) }
+    ensures { IfOk result (λ object. object.text.items ≡ compact_text (answer_data (stated answer.now))) }
 {
     match answer {
         Answer::Key(key) => key_value(alloc, *key),

@@ -1,15 +1,14 @@
 //! The command that parses the command line.
 
-ghost use Rattle.std.specs.Prelude.{◌≡◌, ℤ, IfOk, false, true};
+ghost use Rattle.std.specs.Prelude.{◌≡◌, IfOk, false, true};
 ghost use Rattle.clap.specs.Words.{app_of, new_app};
 ghost use Rattle.clap.specs.declared.builder.command.Command.TheViews.{out-Command as fields_of};
 ghost use Rattle.coniks_programs.specs.Commands.{IsCommand, IsOption};
-ghost use Rattle.coniks_tool.specs.Keydir.{audit_app, check_app, key_rule, keydir, keydir_top, monitor_app, number_rule, run_app, text_rule};
+ghost use Rattle.coniks_tool.specs.Keydir.{audit_app, check_app, key_rule, keydir, keydir_top, monitor_app, run_app, text_rule};
 
 use crate::cli::help;
-use clap::builder::ValueParser;
 use clap::{Arg, Command};
-use coniks_programs::cli::{with_below, with_option};
+use coniks_programs::cli::{number_option, with_below, with_default, with_option};
 use coniks_threads::{MAX_DEPTH, MAX_WORKERS};
 use std::alloc::{AllocError, Global};
 
@@ -18,25 +17,6 @@ fn command<'a>(alloc: Global, name: &'a str, about: &'a str, last: &'a str) -> C
     ensures { IsCommand (new_app name.now) result }
 {
     Command::new(alloc, name).about(about).after_help(last)
-}
-
-/// Returns an option that is a number, with its default.
-fn number_option<'a>(
-    alloc: Global,
-    name: &'a str,
-    missing: &'a str,
-    parser: ValueParser<'a>,
-    value_name: &'a str,
-    help: &'a str,
-) -> Arg<'a>
-    ensures { (least most : ℤ) → parser.entry ≡ ValueParser.Signed least most → IsOption (number_rule name.now missing.now least most) result }
-{
-    Arg::new(alloc, name)
-        .long(name)
-        .value_parser(parser)
-        .value_name(value_name)
-        .default_value(missing)
-        .help(help)
 }
 
 /// Returns an option that is a text.
@@ -63,11 +43,11 @@ fn run_command<'a>(alloc: Global) -> Result<Command<'a>, AllocError>
     let numbers = clap::value_parser!(u8);
     let many = numbers.range(1..=MAX_WORKERS as i64);
     let deep = numbers.range(0..=MAX_DEPTH as i64);
-    let workers = number_option(alloc, "workers", "1", many, "1-64", help::WORKERS);
-    let depth = number_option(alloc, "depth", "0", deep, "0-12", help::DEPTH);
+    let workers = number_option(alloc, "workers", many, "1-64", help::WORKERS);
+    let depth = number_option(alloc, "depth", deep, "0-12", help::DEPTH);
     let bare = command(alloc, "run", help::RUN, help::OF_RUN);
-    let with_workers = with_option(Ok(bare), workers);
-    with_option(with_workers, depth)
+    let with_workers = with_option(Ok(bare), with_default(workers, "1"));
+    with_option(with_workers, with_default(depth, "0"))
 }
 
 /// Returns the subcommand `check`.

@@ -10,7 +10,6 @@ ghost use Rattle.coniks_tool.specs.Program.{EndsBy};
 use crate::audit::machine::run_audit;
 use crate::check::machine::run_check;
 use crate::cli::choice::Settings;
-use crate::cli::ending::{BAD_EXPECTATION, BAD_KEY};
 use crate::monitor::expectation::expectation;
 use crate::monitor::machine::run_monitor;
 use crate::run::machine::run_script;
@@ -21,6 +20,12 @@ use coniks_programs::members::bytes_of_digits;
 use coniks_proof::Bytes;
 use std::alloc::Global;
 use std::thread::Threads;
+
+/// The error line for a bad key.
+const BAD_KEY: &str = "keydir: bad key\n";
+
+/// The error line for a bad expectation.
+const BAD_EXPECTATION: &str = "keydir: bad expectation\n";
 
 /// Runs the settings, after it has read the texts of a key and of an expectation.
 pub(crate) fn run_settings<T: Threads + Sync, R: ByteIn, W: ByteOut>(
@@ -44,7 +49,8 @@ pub(crate) fn run_settings<T: Threads + Sync, R: ByteIn, W: ByteOut>(
         Settings::Check => Ok(Ending::Done(run_check(alloc, reader, writer)?)),
         Settings::Audit { key } => audit_under(alloc, key, reader, writer),
         Settings::Monitor { key, name, expect } => {
-            watch_under(alloc, key, name, expect, reader, writer)
+            let watched = Watched { key, name, expect };
+            watch_under(alloc, watched, reader, writer)
         }
     }
 }
@@ -67,27 +73,33 @@ fn audit_under<R: ByteIn, W: ByteOut>(
     }
 }
 
-/// Monitors a name under the key of a text, for a client whose expectation is a further text.
+/// A name to monitor, with the texts of the directory's key and of the client's expectation.
+#[derive(Clone, Copy)]
+struct Watched<'a> {
+    key: &'a str,
+    name: &'a str,
+    expect: Option<&'a str>,
+}
+
+/// Monitors a name.
 fn watch_under<R: ByteIn, W: ByteOut>(
     alloc: Global,
-    key: &str,
-    name: &str,
-    expect: Option<&str>,
+    watched: Watched<'_>,
     reader: &mut R,
     writer: &mut W,
 ) -> Result<Ending, RunFault>
     requires reads { (R.source reader.old).failed + 1 < 2 ^ 64 }
     requires writes { (W.sink writer.old).failed + 1 < 2 ^ 64 }
-    ensures { EndsBy (Some (monitor key.now name.now (option_map (λ text. text.now) expect.entry)))
+    ensures { EndsBy (Some (monitor watched.entry.key.now watched.entry.name.now (option_map (λ text. text.now) watched.entry.expect)))
         (streams (R.source reader.old) (R.source reader.new) (W.sink writer.old) (W.sink writer.new)) result }
 {
-    let Some(key) = bytes_of_digits(key) else {
+    let Some(key) = bytes_of_digits(watched.key) else {
         return Ok(Ending::Unusable(BAD_KEY));
     };
-    let Some(expected) = expectation_of(alloc, expect)? else {
+    let Some(expected) = expectation_of(alloc, watched.expect)? else {
         return Ok(Ending::Unusable(BAD_EXPECTATION));
     };
-    let name = copy_of(alloc, name)?;
+    let name = copy_of(alloc, watched.name)?;
     let all = run_monitor(alloc, key, name, expected, reader, writer)?;
     Ok(Ending::Done(all))
 }

@@ -18,7 +18,7 @@ ghost use Rattle.coniks_tool.specs.Seal.{is_seal};
 ///
 /// A step is sound if the entry follows, and the proof is accepted under its root and nonce for the name at its index.
 /// The printed error is the first one, the entry's before the proof's.
-pub fn told_fault_of_a_step_is_the_first()
+pub fn reported_fault_of_a_step_is_the_first()
     ensures sound { (s : MonitorState) (entry : Entry) (proof : Proof)
         → ((step_turn s entry proof).outcome ≡ watched entry.body.t (seen_of s.expected (answer_of proof.end)))
         ↔ (IsSoundStep sha256 (is_seal s.key) s.before s.name s.index entry proof (answer_of proof.end)) }

@@ -26,9 +26,9 @@ pub fn refused_line_changes_no_directory()
 
 /// Proves that a printed lookup contains the right names.
 ///
-/// The member `name` is the name asked. The name of the proof's end is the name there, if it is UTF-8, as each name in a
+/// The member `name` is the name requested. The name of the proof's end is the name there, if it is UTF-8, as each name in a
 /// line is.
 pub fn printed_name_is_the_name()
-    ensures asked { (entry : Entry) (index name : Octets) (path : Path) → get (codes "name") (looked_up_data entry index name path) ≡ Some (string name) }
+    ensures requested { (entry : Entry) (index name : Octets) (path : Path) → get (codes "name") (looked_up_data entry index name path) ≡ Some (string name) }
     ensures shown { (name key opening : Octets) → is_utf8 name ≡ true → get (codes "name") (end_data (its_entry name key opening)) ≡ Some (string name) }
 {}

@@ -17,7 +17,7 @@ use crate::run::store::Store;
 use coniks_lines::{ByteIn, ByteOut, LineMachine, run_lines};
 use coniks_programs::fault::{RunFault, of_run};
 use coniks_programs::members::{array, digits32, digits32_if_there, number, read_object, text};
-use coniks_programs::operations::read_ops;
+use coniks_programs::operations::{ReadList, read_ops};
 use coniks_programs::printing::Member;
 use coniks_programs::refusal::Refusal;
 use coniks_threads::Parallelism;
@@ -68,7 +68,7 @@ impl<'r, T: Threads + Sync> Script<'r, T> {
             return Ok(Reply::Refused(Refusal::BadMember(Member::Ops)));
         };
         match read_ops(self.alloc, elements)? {
-            Ok(ops) => {
+            ReadList::Whole(ops) => {
                 let batch = Batch {
                     epoch,
                     new_nonce,
@@ -76,7 +76,7 @@ impl<'r, T: Threads + Sync> Script<'r, T> {
                 };
                 self.store.install(self.rt, self.parallelism, batch)
             }
-            Err(place) => Ok(Reply::Refused(Refusal::BadOperation(place))),
+            ReadList::BadElement(place) => Ok(Reply::Refused(Refusal::BadOperation(place))),
         }
     }
 

@@ -127,7 +127,7 @@ fn lookup_refusal(fault: LookupFault) -> Result<Refusal, AllocError>
 /// Returns why an update is not installed.
 fn install_refusal(fault: InstallFault) -> Result<Refusal, AllocError>
     requires { (why : Option Why) × IsRefusedBy why (CommitFault.Install fault) }
-    ensures refusal { (why : Option Why) → IsRefusedBy why (CommitFault.Install fault) → IfOk result (λ told. why ≡ Some (refusal_of told)) }
+    ensures refusal { (why : Option Why) → IsRefusedBy why (CommitFault.Install fault) → IfOk result (λ reported. why ≡ Some (refusal_of reported)) }
     ensures memory { OnErr result (fault ≡ InstallFault.OutOfMemory) }
 {
     match fault {
@@ -141,7 +141,7 @@ fn install_refusal(fault: InstallFault) -> Result<Refusal, AllocError>
 /// Returns why a batch is not committed.
 fn commit_refusal(fault: CommitFault) -> Result<Refusal, AllocError>
     requires { (why : Option Why) × IsRefusedBy why fault }
-    ensures refusal { (why : Option Why) → IsRefusedBy why fault → IfOk result (λ told. why ≡ Some (refusal_of told)) }
+    ensures refusal { (why : Option Why) → IsRefusedBy why fault → IfOk result (λ reported. why ≡ Some (refusal_of reported)) }
     ensures memory { OnErr result ((fault ≡ CommitFault.Batch OutOfMemory) ⊎ (fault ≡ CommitFault.Install InstallFault.OutOfMemory)) }
 {
     match fault {
@@ -166,11 +166,11 @@ impl Model for Store {
 
     ghost Value = { ScriptState };
 
-    ghost use Rattle.coniks_tool.specs.Stores.{IsKept, script_state_of};
+    ghost use Rattle.coniks_tool.specs.Stores.{IsRetained, script_state_of};
 
     ghost view = { λ s. script_state_of s.opened };
 
-    ghost invariant = { λ s. IsKept s.board s.publisher s.opened };
+    ghost invariant = { λ s. IsRetained s.board s.publisher s.opened };
 }
 
 impl Store {

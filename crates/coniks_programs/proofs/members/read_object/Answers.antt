@@ -12,10 +12,10 @@ use Rattle.coniks_programs.proofs.members.read_object.Goals as goal
 
 pub returns-then-is_object : goal.returns-then-is_object
 returns-then-is_object c =
-    let told = c.in-Ok.ensures.ok in
-    let utf8 = is_utf8-from_IsUtf8 c.args.line.now told.0 in
+    let reported = c.in-Ok.ensures.ok in
+    let utf8 = is_utf8-from_IsUtf8 c.args.line.now reported.0 in
     let is_object : is_some (as_object (view c.in-Ok.value)) ≡ true = sym c.is_object.ensures ∙ c.if-is_object.true in
-    rw (utf8, told.1, is_object) refl
+    rw (utf8, reported.1, is_object) refl
 
 -- a line that can't be parsed contains no object
 no_object : (line : List ℕ) (b : Bool) → is_utf8 line ≡ b → (b ≡ true → read line ≡ None) → None ≡ object_in line

@@ -22,6 +22,6 @@ returns-clause-state c =
     let e = c.in-Ok.ensures in
     let p = is_pending at in
     let added = e.installed.epoch p.index p.supplied in
-    installed_state old.is_logged old.directory c.install_linked.new.self (update at) c.args.signature c.args.said.now (search rules)
+    installed_state old.is_logged old.directory c.install_linked.new.self (update at) c.args.signature c.args.stated.now (search rules)
     old.pending c.take.new.self (pending_in at) c.take.ensures.after
-    e.kept.grows.nonce e.kept.grows.policy e.kept.grows.before e.installed.indices (rw c.new-linked.ensures at added.history) (rw c.new-linked.ensures at added.chain) added.nodes
+    e.retained.grows.nonce e.retained.grows.policy e.retained.grows.before e.installed.indices (rw c.new-linked.ensures at added.history) (rw c.new-linked.ensures at added.chain) added.nodes

@@ -9,5 +9,5 @@ returns-clause-run g c = rw (← c.new-auditing.ensures, c.of_run.ensures)
     (run_is (λ _. ⊥) c.run_lines.result (run_of audit_answer _ c.run_lines.result c.run_lines.ensures.ok c.run_lines.ensures.err))
 
 pub returns-clause-chain : goal.returns-clause-chain
-returns-clause-chain g c = λ input told.
-    rw c.of_run.ensures (all-chain c.args.key input _ _ _ _ c.run_lines.result c.new-auditing.ensures (c.run_lines.ensures.all_of input told))
+returns-clause-chain g c = λ input reported.
+    rw c.of_run.ensures (all-chain c.args.key input _ _ _ _ c.run_lines.result c.new-auditing.ensures (c.run_lines.ensures.all_of input reported))

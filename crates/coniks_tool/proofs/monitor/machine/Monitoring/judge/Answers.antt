@@ -12,7 +12,7 @@ returns-clause-reply c =
 pub returns-clause-state : goal.returns-clause-state
 returns-clause-state c =
     let s = watching c.self.inside.seal.key c.self.inside.monitor in
-    rw (← c.self.view_is) (ap (watching c.self.inside.seal.key) c.in-Ok.ensures.kept ∙ sym (ap (λ (t : MonitorTurn). t.state) (sound-step s c.args.entry.now c.args.proof.now c.in-Ok.ensures.ok)))
+    rw (← c.self.view_is) (ap (watching c.self.inside.seal.key) c.in-Ok.ensures.retained ∙ sym (ap (λ (t : MonitorTurn). t.state) (sound-step s c.args.entry.now c.args.proof.now c.in-Ok.ensures.ok)))
 
 pub returns-in-Err-clause-reply : goal.returns-in-Err-clause-reply
 returns-in-Err-clause-reply c =

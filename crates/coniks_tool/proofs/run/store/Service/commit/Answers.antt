@@ -7,7 +7,7 @@ use Rattle.coniks_tool.proofs.run.store.Service.commit.Goals as goal
 pub returns-clause-served : goal.returns-clause-served
 returns-clause-served g c =
     let e = c.commit_owned-committed.ensures in
-    let k = e.kept in
+    let k = e.retained in
     let s = c.requires.served in
     let result = c.commit_owned-committed.result in
     let counts = made_and_room demo_index result c.args.self.now.directory c.commit_owned-committed.new.self c.args.publisher.now c.commit_owned-committed.new.publisher c.args.batch.ops.items
@@ -17,7 +17,7 @@ returns-clause-served g c =
     e.outcome e.unsigned e.unchanged s.made s.room (as_many c.args.publisher.now.heads c.args.self.now.directory.state.chain s.heads) c.requires.capacity in
     record {
       begun = k.grows.before ∙ s.begun;
-      verdicts = λ b x. k.verdicts_kept b x ∙ s.verdicts b x ∙ ap (λ (k : List ℕ). is_seal k b x) (sym e.same.index);
+      verdicts = λ b x. k.verdicts_retained b x ∙ s.verdicts b x ∙ ap (λ (k : List ℕ). is_seal k b x) (sym e.same.index);
       good = from_first (is_seal c.commit_owned-committed.new.signer.key) c.commit_owned-committed.new.self.state (k.grows.before ∙ s.begun)
           (k.good (to_first (is_seal c.args.self.now.signer.key) c.args.self.now.directory.state s.begun s.good));
       made = counts.0;
@@ -28,14 +28,14 @@ returns-clause-served g c =
 pub returns-clause-ok : goal.returns-clause-ok
 returns-clause-ok g c =
     let e = c.commit_owned-committed.ensures in
-    let k = e.kept in
+    let k = e.retained in
     let s = c.requires.served in
     let result = c.commit_owned-committed.result in
     let history = on_ok result _ _ (λ x added. added.epoch.history) e.installed in
     installed_by c.args.self.now.directory c.commit_owned-committed.new.self c.args.batch.new_nonce c.args.batch.ops.items
     c.args.parallelism.depth c.args.parallelism.workers c.args.batch.epoch
     (length c.args.publisher.now.heads) c.args.board.now.capacity (is_seal c.commit_owned-committed.new.signer.key) result
-    (λ b x. k.verdicts_kept b x ∙ s.verdicts b x) e.same.index k.grows (rw c.nonce_of.ensures at history) (if_ok result _ _ (λ x added. added.epoch.chain) e.installed)
+    (λ b x. k.verdicts_retained b x ∙ s.verdicts b x) e.same.index k.grows (rw c.nonce_of.ensures at history) (if_ok result _ _ (λ x added. added.epoch.chain) e.installed)
     (k.grows.before ∙ s.begun) c.chain-chain.ensures.of_history
     (k.good (to_first (is_seal c.args.self.now.signer.key) c.args.self.now.directory.state s.begun s.good)) e.outcome
     (as_many c.args.publisher.now.heads c.args.self.now.directory.state.chain s.heads) c.requires.capacity s.room

@@ -2,7 +2,7 @@
 
 ghost use Rattle.std.specs.Prelude.{◌≡◌, IfSome, None};
 ghost use Rattle.coniks_provider.specs.Stores.{IsNotRestoring};
-ghost use Rattle.coniks_provider.specs.declared.held.Held.TheVariants.{Nothing, Restoring};
+ghost use Rattle.coniks_provider.specs.declared.stage.Stage.TheVariants.{Nothing, Restoring};
 
 use crate::restoring::Restore;
 use crate::service::Service;
@@ -10,7 +10,7 @@ use std::mem::replace;
 
 /// What the lines have made.
 #[derive(Drop)]
-pub(crate) enum Held {
+pub(crate) enum Stage {
     /// Nothing is open, and no restore has begun.
     Nothing,
     /// A restore that has begun.
@@ -20,15 +20,15 @@ pub(crate) enum Held {
 }
 
 /// Takes out the restore that has begun, if there is one.
-pub(crate) fn take_restore(held: &mut Held) -> Option<Restore>
-    ensures some { IfSome result (λ restore. held.old ≡ Restoring restore) }
-    ensures left { IfSome result (λ _. held.new ≡ Nothing) }
-    ensures none { result ≡ None → (held.new ≡ held.old) × IsNotRestoring held.old }
+pub(crate) fn take_restore(stage: &mut Stage) -> Option<Restore>
+    ensures some { IfSome result (λ restore. stage.old ≡ Restoring restore) }
+    ensures left { IfSome result (λ _. stage.new ≡ Nothing) }
+    ensures none { result ≡ None → (stage.new ≡ stage.old) × IsNotRestoring stage.old }
 {
-    match replace(held, Held::Nothing) {
-        Held::Restoring(restore) => Some(restore),
+    match replace(stage, Stage::Nothing) {
+        Stage::Restoring(restore) => Some(restore),
         other => {
-            *held = other;
+            *stage = other;
             None
         }
     }

@@ -1,5 +1,5 @@
 use Rattle.coniks_tool.proofs.AuditFaultLemmas.{follows-none, none-follows, first-some, some-first}
-use Rattle.coniks_tool.proofs.audit.laws.told_fault_is_the_first.Goals as goal
+use Rattle.coniks_tool.proofs.audit.laws.reported_fault_is_the_first.Goals as goal
 
 pub returns-clause-none : goal.returns-clause-none
 returns-clause-none c verdict before entry = (none-follows verdict before entry, follows-none verdict before entry)
