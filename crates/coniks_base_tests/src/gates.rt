@@ -10,7 +10,7 @@ use std::sync::atomic::{AtomicU64, Ordering};
 pub struct Meeting {
     wanted: u64,
     came: AtomicU64,
-    held: AtomicU64,
+    stored: AtomicU64,
     met: AtomicU64,
 }
 
@@ -20,7 +20,7 @@ impl Meeting {
         Meeting {
             wanted,
             came: AtomicU64::new(0),
-            held: AtomicU64::new(0),
+            stored: AtomicU64::new(0),
             met: AtomicU64::new(0),
         }
     }
@@ -30,7 +30,7 @@ impl Meeting {
         self.came.fetch_add(1, Ordering::SeqCst);
     }
 
-    /// Returns whether all arrivals came while the first job was held.
+    /// Returns whether all arrivals came while the first job was blocked.
     pub fn met(&self) -> bool {
         self.met.load(Ordering::SeqCst) == 1
     }
@@ -39,7 +39,7 @@ impl Meeting {
 impl Gate for Meeting {
     fn enter(&self, _job: usize) {
         self.come();
-        if self.held.fetch_add(1, Ordering::SeqCst) > 0 {
+        if self.stored.fetch_add(1, Ordering::SeqCst) > 0 {
             return;
         }
         for _ in 0..1u64 << 32 {

@@ -38,7 +38,7 @@ pub struct Stamp {
     /// The number of the call, from 0, that returns `None`.
     pub refused_call: u64,
     pub calls: u64,
-    pub asked: Option<[u8; BODY_BYTES]>,
+    pub requested: Option<[u8; BODY_BYTES]>,
 }
 
 impl Stamp {
@@ -49,7 +49,7 @@ impl Stamp {
             taken: Only(taken),
             refused_call,
             calls: 0,
-            asked: None,
+            requested: None,
         }
     }
 }
@@ -70,7 +70,7 @@ impl SignatureSource for Stamp {
     fn signature(&mut self, body: &[u8; BODY_BYTES]) -> Option<Signature> {
         let call = self.calls;
         self.calls = call.wrapping_add(1);
-        self.asked = Some(*body);
+        self.requested = Some(*body);
         if call == self.refused_call {
             None
         } else {

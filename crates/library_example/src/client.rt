@@ -10,15 +10,15 @@ use std::alloc::Global;
 
 /// Looks a name up at an epoch, and checks the proof against the epoch's root.
 pub fn look_up<R: Print>(rt: &R, provider: &Provider, epoch: u64, name: &str) -> Result<()> {
-    let asked = name.as_bytes();
-    let proof = provider.directory.lookup(epoch, asked)?;
+    let requested = name.as_bytes();
+    let proof = provider.directory.lookup(epoch, requested)?;
     let Some(root) = provider.directory.root_at(epoch) else {
         bail!("there is no epoch {epoch}");
     };
 
     // A client computes the index itself, and has the root from an entry that it has audited.
-    let index = INDEX.index(asked);
-    match check(&TaggedHash, &NONCE, &root, &index, asked, &proof)? {
+    let index = INDEX.index(requested);
+    match check(&TaggedHash, &NONCE, &root, &index, requested, &proof)? {
         Answer::Key(key) => println!(rt; "{name} at epoch {epoch}: a key of {} bytes", key.len())?,
         Answer::Absent => println!(rt; "{name} at epoch {epoch}: not registered")?,
     }

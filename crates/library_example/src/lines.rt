@@ -45,7 +45,7 @@ pub fn echo_lines<R: Print + AllocGlobal>(rt: &R) -> Result<()> {
     print_run(rt, &writer, all)
 }
 
-/// A line that asks for a name before a directory is open.
+/// A line that requests a name before a directory is open.
 const SCRIPT: &[u8] = b"{\"cmd\":\"lookup\",\"epoch\":1,\"name\":\"alice\"}\n";
 
 /// Runs a script as `keydir run` does, with two workers and a split depth of 1.
@@ -57,7 +57,7 @@ pub fn answer_script<R: Threads + Sync + Print + AllocGlobal>(rt: &R) -> Result<
     print_run(rt, &writer, all)
 }
 
-/// A line that asks for the latest epoch before a directory is open.
+/// A line that requests the latest epoch before a directory is open.
 const LINES: &[u8] = b"{\"cmd\":\"latest\"}\n";
 
 /// Runs a line as `provider` does, with two workers and a split depth of 1.

@@ -192,6 +192,6 @@ fn signed_or_refused(rt: HostRuntime) {
     assert!(rt; (signer.made(), signer.refused()) == (1, 1));
     assert!(rt; signer.last() == Some(Entry { body, signature }));
     assert!(rt; signer.source.calls == 2);
-    assert!(rt; signer.source.asked == Some(body.bytes()));
+    assert!(rt; signer.source.requested == Some(body.bytes()));
     assert!(rt; signer.verdict(&body.bytes(), &signature));
 }

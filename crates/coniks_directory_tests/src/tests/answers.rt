@@ -7,7 +7,7 @@ use coniks_proof::{Answer, CheckFault, Sha256Hash, check};
 
 /// The result of a lookup, after its proof is checked against the epoch's root.
 #[derive(Clone, Copy, Debug, PartialEq, Eq)]
-pub enum Told {
+pub enum Reported {
     /// The lookup returns this error.
     Missed(LookupFault),
     /// There is no root, or the proof is refused with this error.
@@ -19,14 +19,14 @@ pub enum Told {
 }
 
 /// Looks up a name at an epoch, and checks the proof under the nonce of `open`.
-pub fn asked(directory: &Directory<Sha256Hash, Letters>, t: u64, name: &str) -> Told {
+pub fn requested(directory: &Directory<Sha256Hash, Letters>, t: u64, name: &str) -> Reported {
     let name = name.as_bytes();
     let proof = match directory.lookup(t, name) {
         Ok(proof) => proof,
-        Err(fault) => return Told::Missed(fault),
+        Err(fault) => return Reported::Missed(fault),
     };
     let Some(root) = directory.root_at(t) else {
-        return Told::Refused(None);
+        return Reported::Refused(None);
     };
     let siblings = proof.siblings.as_slice().len();
     match check(
@@ -37,8 +37,8 @@ pub fn asked(directory: &Directory<Sha256Hash, Letters>, t: u64, name: &str) -> 
         name,
         &proof,
     ) {
-        Err(fault) => Told::Refused(Some(fault)),
-        Ok(Answer::Absent) => Told::Absent(siblings),
-        Ok(Answer::Key(key)) => Told::Key(siblings, key.first().copied().unwrap_or(0)),
+        Err(fault) => Reported::Refused(Some(fault)),
+        Ok(Answer::Absent) => Reported::Absent(siblings),
+        Ok(Answer::Key(key)) => Reported::Key(siblings, key.first().copied().unwrap_or(0)),
     }
 }

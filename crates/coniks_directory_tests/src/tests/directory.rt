@@ -3,7 +3,7 @@
 ghost use Rattle.std.specs.Prelude.{◌≡◌, ◌++◌};
 ghost use Rattle.coniks_proof.specs.Sha256.{sha256};
 
-use crate::tests::answers::{Told, asked};
+use crate::tests::answers::{Reported, requested};
 use crate::tests::clerk::{A, B, Clerk, Letters, Written, ops_of, stamping, with_clerk};
 use crate::tests::runs::{install_next, may_sign, prepare_next};
 use coniks_base_tests::{NONCE, OPENING, POLICY};
@@ -19,11 +19,11 @@ use std::thread::Threads;
 
 /// A source that gives every name the same index, and counts its calls.
 #[derive(Drop)]
-struct Asked<'a> {
+struct Requested<'a> {
     calls: &'a Cell<u64>,
 }
 
-impl<'a> IndexSource for Asked<'a> {
+impl<'a> IndexSource for Requested<'a> {
     ghost use Rattle.coniks_proof.specs.Preimages.{zeros};
 
     ghost index_of = { λ source name. zeros };
@@ -49,19 +49,19 @@ fn sized(rt: &impl Abort, alloc: Global, name: usize, key: usize) -> Op {
 /// The source of indices is called once for each operation and each lookup that has no error before that, and not at
 /// all for a name or a key of a wrong length or an unknown epoch.
 #[test]
-fn asked_once(rt: HostRuntime) {
+fn requested_once(rt: HostRuntime) {
     let alloc = rt.alloc();
     let calls = Cell::new(0);
-    let source = Asked { calls: &calls };
+    let source = Requested { calls: &calls };
     let (board, mut publisher) = Board::new(alloc, 1).expect(&rt, "a board");
     let mut signer = stamping();
     let mut directory = Directory::open(alloc, Sha256Hash, source, NONCE, POLICY);
-    for (name, key, asked) in [(256, 1, 0), (0, 1, 0), (1, 16_385, 0), (255, 16_384, 1)] {
+    for (name, key, requested) in [(256, 1, 0), (0, 1, 0), (1, 16_385, 0), (255, 16_384, 1)] {
         calls.set(0);
         let ops = [sized(&rt, alloc, name, key)];
         let is_taken = directory.prepare(&rt, &ops, 0, 1, &Open).is_ok();
-        assert!(rt; is_taken == (asked == 1));
-        assert!(rt; calls.get() == asked);
+        assert!(rt; is_taken == (requested == 1));
+        assert!(rt; calls.get() == requested);
     }
     let ops = ops_of(alloc, &[B]).expect(&rt, "operations");
     let entry = directory.commit(
@@ -77,12 +77,12 @@ fn asked_once(rt: HostRuntime) {
     );
     assert!(rt; entry.is_ok());
     let letters = [b'b'; 256];
-    for (t, length, asked) in [(1, 1, 0), (3, 1, 0), (2, 0, 0), (2, 256, 0), (2, 255, 1)] {
+    for (t, length, requested) in [(1, 1, 0), (3, 1, 0), (2, 0, 0), (2, 256, 0), (2, 255, 1)] {
         calls.set(0);
         let name = letters.get(..length).unwrap_or(&[]);
         let is_found = directory.lookup(t, name).is_ok();
-        assert!(rt; is_found == (asked == 1));
-        assert!(rt; calls.get() == asked);
+        assert!(rt; is_found == (requested == 1));
+        assert!(rt; calls.get() == requested);
     }
 }
 
@@ -109,8 +109,8 @@ fn refuse<R: Threads + Sync + Abort>(rt: &R, clerk: &mut Clerk) {
             "of {written:?}"
         );
     }
-    let wrong = Told::Refused(Some(CheckFault::WrongName));
-    assert!(rt; asked(&clerk.directory, 1, "q") == wrong);
+    let wrong = Reported::Refused(Some(CheckFault::WrongName));
+    assert!(rt; requested(&clerk.directory, 1, "q") == wrong);
 }
 
 /// No two names can have one index.
@@ -222,7 +222,7 @@ fn commit_around<R: Threads + Sync + Abort>(rt: &R, clerk: &mut Clerk) {
     let anew = prepare_next(rt, &clerk.directory, None, &change, 2);
     assert!(rt; clerk.install(anew.expect(rt, "an update"), 6).is_ok());
     for (t, key) in [(5, b'k'), (6, b'l')] {
-        assert!(rt; asked(&clerk.directory, t, "a") == Told::Key(2, key));
+        assert!(rt; requested(&clerk.directory, t, "a") == Reported::Key(2, key));
     }
 }
 

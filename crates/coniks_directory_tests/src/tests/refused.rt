@@ -12,7 +12,7 @@ ghost use Rattle.coniks_proof.specs.Octets.{Octets};
 
 mod restore;
 
-use crate::tests::answers::{Told, asked};
+use crate::tests::answers::{Reported, requested};
 use crate::tests::clerk::{A, B, Clerk, Letters, Written, ops_of, with_clerk};
 use crate::tests::runs::{install_supplied_next, prepare_next, prepare_owned_next, supply_next};
 use coniks_base_tests::{NEW_NONCE, NONCE, POLICY, digest};
@@ -213,14 +213,17 @@ fn look_up_three<R: Threads + Sync + Abort>(rt: &R, clerk: &mut Clerk) -> bool {
     second_epoch(rt, clerk, None, 1);
     let mut refused = false;
     for (t, name, want) in [
-        (2, "b", Told::Key(1, b'l')),
-        (1, "b", Told::Key(1, b'k')),
-        (2, "d", Told::Absent(2)),
+        (2, "b", Reported::Key(1, b'l')),
+        (1, "b", Reported::Key(1, b'k')),
+        (2, "d", Reported::Absent(2)),
     ] {
-        let told = asked(&clerk.directory, t, name);
-        if told != want {
-            assert!(rt; told == Told::Missed(LookupFault::OutOfMemory), "{told:?}");
-            assert!(rt; asked(&clerk.directory, t, name) == want);
+        let reported = requested(&clerk.directory, t, name);
+        if reported != want {
+            assert!(rt;
+                reported == Reported::Missed(LookupFault::OutOfMemory),
+                "{reported:?}"
+            );
+            assert!(rt; requested(&clerk.directory, t, name) == want);
             refused = true;
         }
     }

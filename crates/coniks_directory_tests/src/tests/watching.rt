@@ -2,7 +2,7 @@
 
 ghost use Rattle.std.specs.Prelude.{◌≡◌, ◌<◌, length, All};
 
-use crate::tests::answers::{Told, asked};
+use crate::tests::answers::{Reported, requested};
 use crate::tests::clerk::{A, B, Clerk, Letters, ops_of, with_clerk};
 use coniks_base_tests::{Meeting, Watch, watch_each, watches_of};
 use coniks_chain::link;
@@ -28,13 +28,13 @@ fn prepares<R: Threads + Sync + AllocGlobal>(
 
 /// Looks up the name once, and counts an arrival at the gate. Returns whether the result is right.
 fn looks_up(directory: &Directory<Sha256Hash, Letters>, gate: &Meeting) -> bool {
-    let told = asked(directory, 1, "a");
+    let reported = requested(directory, 1, "a");
     gate.come();
-    told == Told::Key(0, b'k')
+    reported == Reported::Key(0, b'k')
 }
 
 /// Commits an epoch, and prepares the next batch while two threads look up the name.
-fn prepare_held<R: Threads + Sync + Abort + AllocGlobal>(rt: &R, clerk: &mut Clerk) {
+fn prepare_stored<R: Threads + Sync + Abort + AllocGlobal>(rt: &R, clerk: &mut Clerk) {
     assert!(rt; clerk.commit(rt, 1, &[A]).is_ok());
     let gate = Meeting::of(3);
     let directory = &clerk.directory;
@@ -52,14 +52,14 @@ fn prepare_held<R: Threads + Sync + Abort + AllocGlobal>(rt: &R, clerk: &mut Cle
     assert!(rt; prepared && one && other && gate.met());
 }
 
-/// Two threads look up a name while the first job of a batch is held.
+/// Two threads look up a name while the first job of a batch is stored.
 #[test]
 fn look_up_while_preparing(rt: HostRuntime) {
-    with_clerk(&rt, 4, |clerk| prepare_held(&rt, clerk));
+    with_clerk(&rt, 4, |clerk| prepare_stored(&rt, clerk));
 }
 
 /// Commits an epoch, and asserts that a watcher returns its head while the next batch is prepared.
-fn watch_held<R: Threads + Sync + Abort + AllocGlobal>(rt: &R, clerk: &mut Clerk) {
+fn watch_stored<R: Threads + Sync + Abort + AllocGlobal>(rt: &R, clerk: &mut Clerk) {
     let entry = clerk.commit(rt, 1, &[A]).expect(rt, "an epoch");
     let made = clerk.publisher.watcher(clerk.board);
     let watcher = &mut made.expect(rt, "a watcher");
@@ -81,10 +81,10 @@ fn watch_held<R: Threads + Sync + Abort + AllocGlobal>(rt: &R, clerk: &mut Clerk
     assert!(rt; gate.met());
 }
 
-/// While the first job of a batch is held, a watcher returns the latest installed head.
+/// While the first job of a batch is stored, a watcher returns the latest installed head.
 #[test]
 fn watch_while_preparing(rt: HostRuntime) {
-    with_clerk(&rt, 4, |clerk| watch_held(&rt, clerk));
+    with_clerk(&rt, 4, |clerk| watch_stored(&rt, clerk));
 }
 
 /// Installs epochs 1 to 40, and then sets `over` to 1, which ends the watchers.

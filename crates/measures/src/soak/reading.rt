@@ -22,7 +22,7 @@ impl Numbers {
 
 /// Returns whether the proof for a name at an epoch is accepted. It is a presence proof with the name's key if the name
 /// is bound there, and else an absence proof.
-fn is_told(directory: &Names, t: u64, number: u64, is_bound: bool) -> bool {
+fn is_reported(directory: &Names, t: u64, number: u64, is_bound: bool) -> bool {
     let name = name_of(number);
     let (Some(root), Ok(proof)) = (directory.root_at(t), directory.lookup(t, &name)) else {
         return false;
@@ -56,7 +56,7 @@ pub fn wrong_lookups(
         let t = numbers.below(latest).wrapping_add(1);
         let number = numbers.below(latest.wrapping_mul(batch));
         let is_bound = number < t.wrapping_mul(batch);
-        if !is_told(directory, t, number, is_bound) {
+        if !is_reported(directory, t, number, is_bound) {
             wrong = wrong.wrapping_add(1);
         }
     }

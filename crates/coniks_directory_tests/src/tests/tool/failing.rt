@@ -58,8 +58,8 @@ fn status_cut(
     let mut errors = MemoryOut::new(alloc);
     let status = program(rt, alloc, words, &mut reader, &mut output, &mut errors);
     let is_so = if reader.is_met() || output.is_met() {
-        let is_told = errors.bytes() == text.as_bytes();
-        status == 3 && is_told && is_part(&output.bytes, whole, way)
+        let is_reported = errors.bytes() == text.as_bytes();
+        status == 3 && is_reported && is_part(&output.bytes, whole, way)
     } else {
         status == 1 && output.bytes.as_slice() == whole && errors.bytes().is_empty()
     };
@@ -93,7 +93,7 @@ fn byte_by_byte(rt: HostRuntime) {
 
 /// Runs the program with a first read that fails and a standard error that fails after `calls` writes of one byte.
 /// Returns whether all these bytes are written and the run ends with this status.
-fn ends_untold(
+fn ends_unreported(
     rt: &(impl Threads + Sync),
     alloc: Global,
     words: &[&str],
@@ -120,7 +120,7 @@ fn failing_errors(rt: HostRuntime) {
     for (words, status) in &CASES {
         for calls in [0, 3] {
             assert!(rt;
-                ends_untold(&rt, rt.alloc(), *words, calls, *status),
+                ends_unreported(&rt, rt.alloc(), *words, calls, *status),
                 "{words:?}, {calls}"
             );
         }

@@ -7,4 +7,4 @@ returns-clause-run g c =
     let e = c.install.ensures in
     install_step g.H.Hash32.digest_of g.X.IndexSource.index_of c.install.result c.args.directory.now
     c.install.new.self c.args.update c.args.t (length c.args.publisher.now.heads) c.args.board.now.capacity
-    e.installed e.outcome e.same e.kept.grows
+    e.installed e.outcome e.same e.retained.grows
