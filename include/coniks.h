@@ -2,7 +2,7 @@
  * The client's side of a CONIKS key directory: a checker of its proofs, an auditor of its chain of signed entries, and a
  * monitor of one name (Melara, Blankstein, Bonneau, Felten, Freedman: "CONIKS: Bringing Key Transparency to End Users",
  * USENIX Security 2015). The hash is SHA-256 (FIPS 180-4). What each call returns and writes is proved to be what is described
- * here, for all bytes that are passed in. What is said of memory, stack and threads is tested. This header, the compiler and
+ * here, for all bytes that are passed in. What is stated about memory, stack and threads is tested. This header, the compiler and
  * the caller's pointers are not proved.
  *
  * Memory. No call allocates or keeps a pointer, so there is nothing to free. A call uses at most 8 KiB of stack, whatever
@@ -20,7 +20,7 @@
  *
  * Bytes. Numbers are big-endian. The offsets of a proof of n siblings:
  *
- *     0           1 byte: the kind of its end, 0 an empty node, 1 the leaf of another index, 2 the leaf of the asked index
+ *     0           1 byte: the kind of its end, 0 an empty node, 1 the leaf of another index, 2 the leaf of the requested index
  *     1           2 bytes: n
  *     3           the siblings, 32 bytes each, from the root down
  *     3 + 32 n    kind 0: nothing; kind 1: the other index (32) and its commitment (32); kind 2: the opening (32), the length

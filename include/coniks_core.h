@@ -1,35 +1,34 @@
 /*
  * The core of a client of a key directory: its chain, its lookups and its own name, over memory of the caller. docs/FORMATS.md, "Replies to
- * clients", defines what each call accepts. What is said of proofs, memory, stack, threads and pointers in coniks.h holds here too.
+ * clients", defines what each call accepts. What is stated about proofs, memory, stack, threads and pointers in coniks.h holds here too.
  *
- * A client is its policy digest, an array of kept epochs from the oldest to the latest one, and the watched name with the changes of
- * its key that the owner made. The caller has the memory, the clock and the cryptography. It verifies signatures and VRF proofs with its
- * own library, and passes the verdicts: 1 if valid, anything else if not.
+ * A client is a struct coniks_core: its rules, the watched name, and arrays of stored epochs, from the oldest to the latest one, of the
+ * changes of the key that the owner made, of alarms, and of a mark for each auditor that it names. The caller has the memory, the clock and
+ * the cryptography. It verifies signatures and VRF proofs with its own library, and passes the verdicts: 1 if valid, anything else if not.
+ * All bytes 0 but the rules and the arrays' places and rooms is a client that has seen nothing.
  *
  * A lookup has two phases. coniks_core_reply_needs says what of the reply has to be verified. coniks_core_lookup takes the verdicts:
  *
  *     coniks_needs needs;
- *     status = coniks_core_reply_needs(kept, count, reply, reply_length, &needs);
+ *     status = coniks_core_reply_needs(&core, reply, reply_length, &needs);
  *     if (status != CONIKS_GOOD) return status;
  *     coniks_verdicts verdicts = {0};
  *     if (needs.signature) verdicts.signature = my_verify(reply + needs.entry_start);
  *     verdicts.index = my_vrf(name, name_length, reply + needs.vrf_start, needs.vrf_length, &verdicts.at);
- *     coniks_asking asking = {name, name_length, reply, reply_length, 0, 0};
- *     status = coniks_core_lookup(&policy, &present, kept, count, &watch, changes, change_count, &asking, &verdicts, &found, &why);
+ *     coniks_asking asking = {name, name_length, reply, reply_length, 0, 0, my_time()};
+ *     status = coniks_core_lookup(&core, &asking, &verdicts, &found, &why);
  *
  * `found` is what the reply shows; of a watched name it says also whether that is what the owner expects. After an error nothing is
  * written but `why`. Arrays may not overlap. Anyone who can change what a client keeps decides what it accepts next.
  *
- * A client that names auditors keeps a mark for each: an array of numbers, all 0 at the beginning. The caller verifies an auditor's
- * cosignature of a head with its own library, and passes the head to coniks_core_mark. 3 says that the auditor has another chain: get its
- * entry, and call coniks_core_evidence. What was found is relied on once a quorum of auditors confirms its epoch:
+ * The caller verifies an auditor's cosignature of a head with its own library, and passes the head to coniks_core_mark. 3 says that the
+ * auditor has another chain: get its entry, and call coniks_core_evidence. What was found is relied on once a quorum of auditors confirms
+ * its epoch:
  *
- *     size_t quorum = coniks_core_quorum(auditors, faulty);
- *     if (coniks_core_mark(kept, count, marks, auditors, place, epoch, &link) == 3) return my_alarm(place);
- *     if (coniks_core_relied(kept, count, found.place, marks, auditors, quorum) != CONIKS_GOOD) return my_wait(found.place);
- *     status = coniks_core_report(&present, kept, count, &watch, &promise, alarms, alarm_count, marks, auditors, quorum, &report);
- *
- * The calls that take marks find the epoch that a quorum of them confirms by themselves. A quorum of 0 confirms nothing.
+ *     core.rules.quorum = coniks_core_quorum(auditors, faulty);
+ *     if (coniks_core_mark(&core, place, epoch, &link) == 3) return my_alarm(place);
+ *     if (coniks_core_relied(&core, found.place) != CONIKS_GOOD) return my_wait(found.place);
+ *     status = coniks_core_report(&core, my_time(), &report);
  *
  * coniks_core_cover drops old epochs. Each watched one that was not the same leaves an alarm, which is reported until the owner takes note
  * of it: then call coniks_core_note.
@@ -37,11 +36,10 @@
  * A history and a state have two phases too. A state gives nothing to the client before its signatures are verified:
  *
  *     coniks_state_needs needs;
- *     status = coniks_core_state_needs(&policy, state, state_length, &needs);
+ *     status = coniks_core_state_needs(&core, state, state_length, &needs);
  *     if (status != CONIKS_GOOD) return status;
- *     for (k = 0; k < needs.kept; k++) verdicts[k] = my_verify(state + needs.entry_start + k * needs.entry_step);
- *     status = coniks_core_state_read(&policy, state, state_length, verdicts, needs.kept, &trust, kept, room, &count, &watch, changes,
- *                                     change_room, &change_count, alarms, alarm_room, &alarm_count, marks, auditors);
+ *     for (k = 0; k < needs.stored; k++) verdicts[k] = my_verify(state + needs.entry_start + k * needs.entry_step);
+ *     status = coniks_core_state_read(&core, state, state_length, verdicts, needs.stored);
  */
 #ifndef CONIKS_CORE_H
 #define CONIKS_CORE_H
@@ -75,7 +73,7 @@ enum coniks_core_status {
     /* the reply or the entry is not one that the client can accept */
     CONIKS_CORE_E_OTHER_POLICY = 80,  /* the signed entry has another policy digest than the directory's */
     CONIKS_CORE_E_MALFORMED = 81,     /* no chain has the signed entry */
-    CONIKS_CORE_E_EQUIVOCATION = 82,  /* the signed entry and a kept one are evidence */
+    CONIKS_CORE_E_EQUIVOCATION = 82,  /* the signed entry and a stored one are evidence */
     CONIKS_CORE_E_UNKNOWN_EPOCH = 83, /* the chain has no entry at this epoch */
     CONIKS_CORE_E_OTHER_EPOCH = 84,   /* the reply's body is not that of the client's entry at the requested epoch */
     CONIKS_CORE_E_STALE = 85,         /* the latest epoch began too long ago */
@@ -112,12 +110,12 @@ enum coniks_core_status {
     /* formats.toml: end */
 };
 
-/* A kept epoch: 218 bytes, as a client's state has them. Seen: 0 not watched, 1 the same, 3 another key, 4 no key, 5 missing. */
-typedef struct coniks_kept {
+/* A stored epoch: 218 bytes, as a client's state has them. Seen: 0 not watched, 1 the same, 3 another key, 4 no key, 5 missing. */
+typedef struct coniks_stored_entry {
     uint8_t entry[209];
     uint8_t first_seen[8]; /* Unix time in seconds, big-endian */
     uint8_t seen;
-} coniks_kept;
+} coniks_stored_entry;
 
 /* A change of the watched key: epochs up to `last_old` show the key before it, those from `first_new` on the new one. The caller keeps
  * the key's bytes; no byte is no key. */
@@ -144,15 +142,69 @@ typedef struct coniks_watch {
     size_t key_length;
 } coniks_watch;
 
-/* The policy's clock, the client's limits and the Unix time, in seconds. */
-typedef struct coniks_present {
-    uint32_t has_clock; /* 1 if the policy has a clock; else no epoch is stale or in the future */
-    uint64_t start;     /* at which epoch 1 begins */
-    uint64_t period;    /* of an epoch */
-    uint64_t max_age;   /* how long ago the latest epoch may have begun; two periods by default */
-    uint64_t skew;      /* how far from now it may begin; 300 by default */
-    uint64_t time;
-} coniks_present;
+/* The policy's clock and the client's limits, in seconds. */
+typedef struct coniks_clock {
+    uint32_t is_there; /* 1 if the policy has a clock; else no epoch is stale or in the future */
+    uint64_t start;    /* at which epoch 1 begins, in Unix time */
+    uint64_t period;   /* of an epoch */
+    uint64_t max_age;  /* how long ago the latest epoch may have begun; two periods by default */
+    uint64_t skew;     /* how far from now it may begin; 300 by default */
+} coniks_clock;
+
+/* How long the policy promises proofs of a past epoch. All bytes 0 is forever. */
+typedef struct coniks_promise {
+    uint32_t is_limited; /* 1 if for `seconds` after the next stored epoch begins; else forever */
+    uint64_t seconds;
+} coniks_promise;
+
+/* What the policy and the trust document of a client fix. */
+typedef struct coniks_rules {
+    coniks_bytes32 policy; /* the SHA-256 of the policy */
+    coniks_bytes32 trust;  /* that of the trust document; all bytes 0 without one */
+    coniks_clock clock;
+    coniks_promise promise;
+    size_t quorum; /* of the auditors, as coniks_core_quorum returns it. 0 confirms nothing */
+} coniks_rules;
+
+/* The stored epochs: the first `count` of `items`, which has room for `room`. So it is for the other arrays. */
+typedef struct coniks_stored {
+    coniks_stored_entry *items;
+    size_t room;
+    size_t count;
+} coniks_stored;
+
+typedef struct coniks_changes {
+    coniks_change *items;
+    size_t room;
+    size_t count;
+} coniks_changes;
+
+typedef struct coniks_alarms {
+    coniks_alarm *items;
+    size_t room;
+    size_t count;
+} coniks_alarms;
+
+/* A client. If a count is greater than its room, coniks_core_mark and the calls that take a `const coniks_core *` read as many items as there
+ * is room for. A lookup, a history and coniks_core_watch return CONIKS_CORE_E_NO_ROOM then, and so do coniks_core_feed, coniks_core_expect,
+ * coniks_core_cover and coniks_core_note for an array that they change. */
+typedef struct coniks_core {
+    coniks_rules rules;
+    coniks_watch watch;
+    coniks_stored stored;
+    coniks_changes changes;
+    coniks_alarms alarms;
+    uint64_t *marks; /* one for each auditor, in the order of the trust document: all 0 at the beginning */
+    size_t mark_count;
+} coniks_core;
+
+/* An entry that the client received. */
+typedef struct coniks_received {
+    const uint8_t *entry;
+    size_t entry_length;
+    uint32_t signature; /* the verdict on its signature */
+    uint64_t time;      /* when it was received, in Unix time */
+} coniks_received;
 
 /* A name that is looked up, and the reply. */
 typedef struct coniks_asking {
@@ -160,8 +212,9 @@ typedef struct coniks_asking {
     size_t name_length;
     const uint8_t *reply;
     size_t reply_length;
-    uint32_t is_asked; /* 1 if `epoch` is asked; else the latest one */
+    uint32_t is_requested; /* 1 if `epoch` is requested; else the latest one */
     uint64_t epoch;
+    uint64_t time; /* when the reply was received, in Unix time */
 } coniks_asking;
 
 /* What the caller verified: 1 for what is valid. A verdict that is left out is 0. */
@@ -181,7 +234,7 @@ typedef struct coniks_needs {
 
 /* What an accepted reply shows. */
 typedef struct coniks_found {
-    size_t place;     /* of its epoch among the kept ones */
+    size_t place;     /* of its epoch among the stored ones */
     uint32_t shows;   /* 1 a key, 2 none */
     uint32_t seen;    /* the number that the epoch has now, if the name is watched there, else 0 */
     size_t key_start; /* the key is this part of the reply */
@@ -192,7 +245,7 @@ typedef struct coniks_found {
 typedef struct coniks_why {
     uint32_t status; /* why an entry that convicts does not follow, 33 to 39, else 0 */
     uint32_t kind;   /* one of `enum coniks_evidence`, 0 if there is none */
-    size_t mine;     /* the place of the kept entry that convicts with it; SIZE_MAX if it convicts alone. With
+    size_t mine;     /* the place of the stored entry that convicts with it; SIZE_MAX if it convicts alone. With
                         CONIKS_CORE_E_AUDITORS_DIFFER the place of the first auditor that differs, and `kind` is 0 */
 } coniks_why;
 
@@ -203,20 +256,14 @@ typedef struct coniks_head {
     coniks_bytes32 link;
 } coniks_head;
 
-/* How long the policy promises proofs of a past epoch. All bytes 0 is forever. */
-typedef struct coniks_promise {
-    uint32_t is_limited; /* 1 if for `seconds` after the next kept epoch begins; else forever */
-    uint64_t seconds;
-} coniks_promise;
-
 /* What the client reports of the watched name: the first of these that applies. */
 enum coniks_report_verdict {
     CONIKS_REPORT_CHANGED =
-        1, /* `from` shows another key, or no key: the epoch of the first such alarm, else the first kept one */
-    CONIKS_REPORT_MISSING = 2, /* the kept epoch `from` is missing, and not lost; it is the first such one */
+        1, /* `from` shows another key, or no key: the epoch of the first such alarm, else the first stored one */
+    CONIKS_REPORT_MISSING = 2, /* the stored epoch `from` is missing, and not lost; it is the first such one */
     CONIKS_REPORT_LOST =
         3, /* `from` is lost: the policy promises no proof of it any more; of the first such alarm, else kept */
-    CONIKS_REPORT_UNWATCHED = 4,   /* no kept epoch is watched; here and below there is no alarm */
+    CONIKS_REPORT_UNWATCHED = 4,   /* no stored epoch is watched; here and below there is no alarm */
     CONIKS_REPORT_UNCONFIRMED = 5, /* each epoch shows the expected key, but no quorum confirms the latest one */
     CONIKS_REPORT_GOOD = 6         /* each epoch shows the expected key, and a quorum confirms all of them */
 };
@@ -229,7 +276,7 @@ typedef struct coniks_report {
 
 /* What coniks_core_cover dropped. */
 typedef struct coniks_covered {
-    size_t epochs; /* how many kept epochs */
+    size_t epochs; /* how many stored epochs */
     uint64_t from; /* the first and the last of them; 0 if there is none */
     uint64_t to;
     size_t changes; /* how many changes of the watched key */
@@ -257,30 +304,23 @@ typedef struct coniks_siblings {
 
 /* What a step of an accepted history shows. The key is a part of the history's bytes. */
 typedef struct coniks_step {
-    size_t place; /* of its epoch among the kept ones */
+    size_t place; /* of its epoch among the stored ones */
     const uint8_t *key;
     size_t key_length;
     uint32_t shows; /* 1 a key, 2 none; 0 in a history that is not accepted */
     uint32_t seen;  /* the number that the epoch has now, if the name is watched there, else 0 */
 } coniks_step;
 
-/* What a client saves in a state beside its policy. */
-typedef struct coniks_saved {
-    const coniks_kept *kept;
+/* Memory for what the steps of a history show: the first `count` are written. */
+typedef struct coniks_steps {
+    coniks_step *items;
+    size_t room;
     size_t count;
-    coniks_watch watch;
-    const coniks_change *changes;
-    size_t change_count;
-    const coniks_alarm *alarms;
-    size_t alarm_count;
-    coniks_bytes32 trust;  /* the SHA-256 of the trust document; all bytes 0 without one */
-    const uint64_t *marks; /* one for each auditor, in the order of the trust document */
-    size_t mark_count;
-} coniks_saved;
+} coniks_steps;
 
 /* What a client needs for a state. Entry k, counted from 0, is at entry_start + k * entry_step of the state's bytes. */
 typedef struct coniks_state_needs {
-    size_t kept;    /* the number of kept epochs: each has a signature to verify */
+    size_t stored;  /* the number of stored epochs: each has a signature to verify */
     size_t changes; /* of changes of the watched key */
     size_t alarms;  /* of alarms */
     size_t entry_start;
@@ -288,59 +328,53 @@ typedef struct coniks_state_needs {
 } coniks_state_needs;
 
 /*
- * Accepts an entry. One that continues the chain is kept after the first *count of `room` epochs, and *count is one more. The latest one
- * with another signature takes its place: its time and what was seen stay, and each mark at its epoch becomes 0. Returns CONIKS_GOOD; the
- * first of 48, 40, 80, 81, 82 and 33 to 39, with `why`; or CONIKS_CORE_E_NO_ROOM. After CONIKS_E_PREVIOUS_LINK get the latest entry once
- * more, and feed it before the next one: it may have been signed again.
+ * Accepts an entry. One that continues the chain is stored after the others. The latest one with another signature takes its place: its time
+ * and what was seen stay, and each mark at its epoch becomes 0. Returns CONIKS_GOOD; the first of 48, 40, 80, 81, 82 and 33 to 39, with
+ * `why`; or CONIKS_CORE_E_NO_ROOM. After CONIKS_E_PREVIOUS_LINK get the latest entry once more, and feed it before the next one: it may have
+ * been signed again.
  */
-CONIKS_NODISCARD CONIKS_NONNULL((1, 4, 5, 12))
-uint32_t coniks_core_feed(const coniks_bytes32 *policy, coniks_kept *kept, size_t room, size_t *count,
-                          const coniks_watch *watch, uint64_t *marks, size_t mark_count, const uint8_t *entry,
-                          size_t entry_length, uint32_t signature_verdict, uint64_t time, coniks_why *why);
+CONIKS_NODISCARD CONIKS_NONNULL((1, 2, 3))
+uint32_t coniks_core_feed(coniks_core *core, const coniks_received *received, coniks_why *why);
 
 /* Finds what of a reply the caller has to verify. Returns CONIKS_GOOD, or the first of 64 to 67. */
-CONIKS_NODISCARD CONIKS_NONNULL((5))
-uint32_t coniks_core_reply_needs(const coniks_kept *kept, size_t count, const uint8_t *reply, size_t reply_length,
-                                 coniks_needs *needs);
+CONIKS_NODISCARD CONIKS_NONNULL((1, 4))
+uint32_t coniks_core_reply_needs(const coniks_core *core, const uint8_t *reply, size_t reply_length, coniks_needs *needs);
 
 /*
- * Looks a name up in a reply. Returns CONIKS_GOOD, with `found`; a watched epoch and the changes are marked then. Else returns the first
- * of 64 to 67, 40, 80 to 87, 17 to 25 and 2 to 8, with `why`, and nothing else is written.
+ * Looks a name up in a reply. Returns CONIKS_GOOD, with `found`; a watched epoch and the changes are marked then. Else returns 137 if a
+ * count is greater than its room, and writes nothing; or the first of 64 to 67, 40, 80 to 87, 17 to 25 and 2 to 8, with `why`, and writes
+ * nothing else.
  */
-CONIKS_NODISCARD CONIKS_NONNULL((1, 2, 5, 8, 9, 10, 11))
-uint32_t coniks_core_lookup(const coniks_bytes32 *policy, const coniks_present *present, coniks_kept *kept, size_t count,
-                            const coniks_watch *watch, coniks_change *changes, size_t change_count, const coniks_asking *asking,
-                            const coniks_verdicts *verdicts, coniks_found *found, coniks_why *why);
+CONIKS_NODISCARD CONIKS_NONNULL((1, 2, 3, 4, 5))
+uint32_t coniks_core_lookup(coniks_core *core, const coniks_asking *asking, const coniks_verdicts *verdicts,
+                            coniks_found *found, coniks_why *why);
 
 /*
  * Begins to watch the name and the key of `wanted`, from its epoch `since` on if `is_since` is 1, else from the latest one, or 1 without an
- * entry. These epochs are missing until a reply for them is accepted. The same call once more changes nothing. Returns CONIKS_GOOD,
- * or the first of 130 to 132.
+ * entry. Its `is_watched` is not read. The watched epochs are missing until a reply for them is accepted. The same call once more changes
+ * nothing. Returns CONIKS_GOOD, or the first of 130 to 132 and 137.
  */
-CONIKS_NODISCARD CONIKS_NONNULL((3, 6))
-uint32_t coniks_core_watch(coniks_kept *kept, size_t count, coniks_watch *watch, const coniks_change *changes,
-                           size_t change_count, const coniks_watch *wanted, uint32_t is_since);
+CONIKS_NODISCARD CONIKS_NONNULL((1, 2))
+uint32_t coniks_core_watch(coniks_core *core, const coniks_watch *wanted, uint32_t is_since);
 
 /*
- * Expects a change of the watched key that its owner makes, to a new key, which each epoch from `by` on is to show. Writes it after the
- * first *count of `room` changes. Returns CONIKS_GOOD, or the first of 133, 131 and 134 to 137.
+ * Expects a change of the watched key that its owner makes, to a new key, which each epoch from `by` on is to show. It is written after the
+ * other changes. Returns CONIKS_GOOD, or the first of 133, 131 and 134 to 137.
  */
-CONIKS_NODISCARD CONIKS_NONNULL((3, 6))
-uint32_t coniks_core_expect(const coniks_kept *kept, size_t count, const coniks_watch *watch, coniks_change *changes,
-                            size_t room, size_t *change_count, const uint8_t *key, size_t key_length, uint64_t by);
+CONIKS_NODISCARD CONIKS_NONNULL((1))
+uint32_t coniks_core_expect(coniks_core *core, const uint8_t *key, size_t key_length, uint64_t by);
 
 /*
  * Compares a head, for example an auditor's. Returns 1 if the client keeps an entry with this epoch and link, and writes its place; 2 if it
  * keeps none that covers the epoch; 3 if it keeps another one that does: get that entry, and call coniks_core_evidence.
  */
-CONIKS_NODISCARD CONIKS_NONNULL((4, 5))
-uint32_t coniks_core_compare(const coniks_kept *kept, size_t count, uint64_t epoch, const coniks_bytes32 *link, size_t *place);
+CONIKS_NODISCARD CONIKS_NONNULL((1, 3, 4))
+uint32_t coniks_core_compare(const coniks_core *core, uint64_t epoch, const coniks_bytes32 *link, size_t *place);
 
-/* Finds the first kept entry that is evidence with an entry of somebody else. Returns CONIKS_GOOD, with `why`; 48, 40, or
- * CONIKS_NO_EVIDENCE. An entry that no chain contains convicts alone: see coniks_convicts. */
-CONIKS_NODISCARD CONIKS_NONNULL((6))
-uint32_t coniks_core_evidence(const coniks_kept *kept, size_t count, const uint8_t *entry, size_t entry_length,
-                              uint32_t signature_verdict, coniks_why *why);
+/* Finds the first stored entry that is evidence with an entry of somebody else. Returns CONIKS_GOOD, with `why`; 48, 40, or
+ * CONIKS_NO_EVIDENCE. The time is not read. An entry that no chain contains convicts alone: see coniks_convicts. */
+CONIKS_NODISCARD CONIKS_NONNULL((1, 2, 3))
+uint32_t coniks_core_evidence(const coniks_core *core, const coniks_received *received, coniks_why *why);
 
 /*
  * The quorum of `auditors` of which at most `faulty` lie or are silent. Returns 0, which is no quorum, if three times `faulty` are not fewer
@@ -351,76 +385,66 @@ size_t coniks_core_quorum(size_t auditors, size_t faulty);
 
 /*
  * Compares the head that an auditor cosigned, as coniks_core_compare does, and raises its mark to the head's epoch if they are equal: then
- * it returns 1. `place` is that of the auditor in `marks`. Verify the cosignature first. Call it before epochs are dropped: a head at a
+ * it returns 1. `place` is that of the auditor in the marks. Verify the cosignature first. Call it before epochs are dropped: a head at a
  * dropped epoch is unknown. Returns CONIKS_CORE_E_NO_AUDITOR if there is no such mark.
  */
-CONIKS_NODISCARD CONIKS_NONNULL((7))
-uint32_t coniks_core_mark(const coniks_kept *kept, size_t count, uint64_t *marks, size_t mark_count, size_t place,
-                          uint64_t epoch, const coniks_bytes32 *link);
+CONIKS_NODISCARD CONIKS_NONNULL((1, 4))
+uint32_t coniks_core_mark(coniks_core *core, size_t place, uint64_t epoch, const coniks_bytes32 *link);
 
 /* Writes the greatest epoch that a quorum of the marks confirms. Returns CONIKS_GOOD, or CONIKS_CORE_E_NOT_CONFIRMED if there is none. */
-CONIKS_NODISCARD CONIKS_NONNULL((4))
-uint32_t coniks_core_confirmed(const uint64_t *marks, size_t mark_count, size_t quorum, uint64_t *epoch);
+CONIKS_NODISCARD CONIKS_NONNULL((1, 2))
+uint32_t coniks_core_confirmed(const coniks_core *core, uint64_t *epoch);
 
 /*
- * Finds whether the client may rely on what a kept epoch shows, for example at the place of `coniks_found`. Call it before
+ * Finds whether the client may rely on what a stored epoch shows, for example at the place of `coniks_found`. Call it before
  * coniks_core_cover, which moves epochs. Returns CONIKS_GOOD if a quorum confirms the epoch, CONIKS_CORE_E_NOT_CONFIRMED if none does yet, or
  * CONIKS_CORE_E_UNKNOWN_EPOCH if there is no epoch at the place.
  */
-CONIKS_NODISCARD
-uint32_t coniks_core_relied(const coniks_kept *kept, size_t count, size_t place, const uint64_t *marks, size_t mark_count,
-                            size_t quorum);
+CONIKS_NODISCARD CONIKS_NONNULL((1))
+uint32_t coniks_core_relied(const coniks_core *core, size_t place);
 
 /*
- * Accepts the first entry of a client that starts late, after *count = 0 epochs: one for which a quorum of the auditors has a head. `heads`
+ * Accepts the first entry of a client that starts late, and has no stored epoch: one for which a quorum of the auditors has a head. `heads`
  * has the head of each auditor, in the order of the marks, at most 64. Verify the cosignatures first, and call coniks_core_mark with each
- * head afterwards. Returns CONIKS_GOOD, and *count is 1; else the first of 140 to 142 and 137, or the first of 48, 40, 80, 81, 105 and
+ * head afterwards. Returns CONIKS_GOOD, with one stored epoch; else the first of 140 to 142 and 137, or the first of 48, 40, 80, 81, 105 and
  * 104, with `why`.
  */
-CONIKS_NODISCARD CONIKS_NONNULL((1, 4, 5, 13))
-uint32_t coniks_core_start(const coniks_bytes32 *policy, coniks_kept *kept, size_t room, size_t *count,
-                           const coniks_watch *watch, const coniks_head *heads, size_t head_count, size_t quorum,
-                           const uint8_t *entry, size_t entry_length, uint32_t signature_verdict, uint64_t time,
+CONIKS_NODISCARD CONIKS_NONNULL((1, 4, 5))
+uint32_t coniks_core_start(coniks_core *core, const coniks_head *heads, size_t head_count, const coniks_received *received,
                            coniks_why *why);
 
 /*
- * Drops the first of *count kept epochs: those before the epoch that a quorum of the marks confirms, and before the first missing one that
- * is not lost. Each watched one that was not the same leaves an alarm after the *alarm_count ones. Drops the first of *change_count
- * changes, which no epoch that is left needs. What is left moves to the front of the arrays, the counts and the first key of the watch are
- * set, and `covered` says what was dropped. Returns CONIKS_GOOD, also if nothing was; or CONIKS_CORE_E_NO_ROOM if a count is greater than
- * its room, or there is no room for the alarms, of which there are at most *alarm_count + *count. Before it, compare heads, and look
- * missing epochs up: no reply for a dropped one is accepted.
+ * Drops the first stored epochs: those before the epoch that a quorum of the marks confirms, and before the first missing one that is not
+ * lost. Each watched one that was not the same leaves an alarm after the others. Drops the first changes, which no epoch that is left needs.
+ * What is left moves to the front of the arrays, the counts and the first key of the watch are set, and `covered` says what was dropped.
+ * Returns CONIKS_GOOD, also if nothing was; or CONIKS_CORE_E_NO_ROOM if a count is greater than its room, or there is no room for the alarms,
+ * of which there are at most as many more as there are stored epochs. Before it, compare heads, and look missing epochs up: no reply for a
+ * dropped one is accepted.
  */
-CONIKS_NODISCARD CONIKS_NONNULL((1, 2, 5, 9, 12, 15, 16))
-uint32_t coniks_core_cover(const coniks_present *present, const coniks_promise *promise, coniks_kept *kept, size_t room,
-                           size_t *count, const uint64_t *marks, size_t mark_count, size_t quorum, coniks_watch *watch,
-                           coniks_change *changes, size_t change_room, size_t *change_count, coniks_alarm *alarms,
-                           size_t alarm_room, size_t *alarm_count, coniks_covered *covered);
+CONIKS_NODISCARD CONIKS_NONNULL((1, 3))
+uint32_t coniks_core_cover(coniks_core *core, uint64_t time, coniks_covered *covered);
 
 /*
  * Takes note of the alarms up to an epoch: drops the first ones, as long as they are of this epoch or of an earlier one. Call it when the
- * owner has seen all of them: a report names the first one only. Returns CONIKS_GOOD, or CONIKS_CORE_E_NO_ROOM if *alarm_count is greater
- * than `room`.
+ * owner has seen all of them: a report names the first one only. Returns CONIKS_GOOD, or CONIKS_CORE_E_NO_ROOM if the count is greater than
+ * the room.
  */
-CONIKS_NODISCARD CONIKS_NONNULL((3))
-uint32_t coniks_core_note(coniks_alarm *alarms, size_t room, size_t *alarm_count, uint64_t epoch);
+CONIKS_NODISCARD CONIKS_NONNULL((1))
+uint32_t coniks_core_note(coniks_core *core, uint64_t epoch);
 
 /*
- * Reports what the client has seen of the watched name: at the kept epochs, and at dropped ones by their alarms. Returns CONIKS_GOOD, with
+ * Reports what the client has seen of the watched name: at the stored epochs, and at dropped ones by their alarms. Returns CONIKS_GOOD, with
  * `report`, or CONIKS_CORE_E_NOT_WATCHING. It does not compare the latest epoch with the clock.
  */
-CONIKS_NODISCARD CONIKS_NONNULL((1, 4, 5, 11))
-uint32_t coniks_core_report(const coniks_present *present, const coniks_kept *kept, size_t count, const coniks_watch *watch,
-                            const coniks_promise *promise, const coniks_alarm *alarms, size_t alarm_count,
-                            const uint64_t *marks, size_t mark_count, size_t quorum, coniks_report *report);
+CONIKS_NODISCARD CONIKS_NONNULL((1, 3))
+uint32_t coniks_core_report(const coniks_core *core, uint64_t time, coniks_report *report);
 
 /*
- * Returns 1 if the kept epoch at a place is missing and lost: the policy promises no proof of it any more. Else returns 0, also if there is
+ * Returns 1 if the stored epoch at a place is missing and lost: the policy promises no proof of it any more. Else returns 0, also if there is
  * no epoch at the place.
  */
-CONIKS_NODISCARD CONIKS_NONNULL((1, 2))
-uint32_t coniks_core_lost(const coniks_present *present, const coniks_promise *promise, const coniks_kept *kept, size_t count,
-                          size_t place);
+CONIKS_NODISCARD CONIKS_NONNULL((1))
+uint32_t coniks_core_lost(const coniks_core *core, uint64_t time, size_t place);
 
 /* Writes the number of entries of a catch-up, 209 bytes each: feed them one after another. Returns CONIKS_GOOD, or 68. */
 CONIKS_NODISCARD CONIKS_NONNULL((3))
@@ -431,47 +455,41 @@ CONIKS_NODISCARD CONIKS_NONNULL((3))
 uint32_t coniks_core_history_needs(const uint8_t *history, size_t history_length, coniks_history_needs *needs);
 
 /*
- * Accepts a history of a name as a whole. Returns CONIKS_GOOD: the number of steps is *step_count, what they show is in `steps`, and the
- * watched epochs and the changes are marked. Of the verdicts, `index` and `at` are read. Else returns the first of 69, 70, 67, 71 to 76 and 2;
- * 87; then of the steps, one after another, 137 if `steps` has no room for it, 83, and 3 to 8. Then *step_count and what the client keeps are
- * unchanged, and each step that was written shows 0. `room` is never too small if it is one more than `count`.
+ * Accepts a history of a name as a whole. Returns CONIKS_GOOD: the number of steps and what they show is in `steps`, and the watched epochs
+ * and the changes are marked. Of the verdicts, `index` and `at` are read. Else returns 137 if a count of the client is greater than its
+ * room; or the first of 69, 70, 67, 71 to 76 and 2; 87; then of the steps, one after another, 137 if `steps` has no room for it, 83, and 3
+ * to 8. Then the count of `steps` and what the client keeps are unchanged, and each step that was written shows 0. The room is never too
+ * small if it is one more than the number of stored epochs.
  */
-CONIKS_NODISCARD CONIKS_NONNULL((3, 6, 7, 8, 11))
-uint32_t coniks_core_history(coniks_kept *kept, size_t count, const coniks_watch *watch, coniks_change *changes,
-                             size_t change_count, const coniks_history *asking, const coniks_verdicts *verdicts,
-                             coniks_siblings *siblings, coniks_step *steps, size_t room, size_t *step_count);
+CONIKS_NODISCARD CONIKS_NONNULL((1, 2, 3, 4, 5))
+uint32_t coniks_core_history(coniks_core *core, const coniks_history *asking, const coniks_verdicts *verdicts,
+                             coniks_siblings *siblings, coniks_steps *steps);
 
 /*
- * Writes the number of bytes of a client's state. Returns CONIKS_GOOD; or CONIKS_CORE_E_NO_STATE, if there are 2^32 kept epochs, changes,
+ * Writes the number of bytes of a client's state. Returns CONIKS_GOOD; or CONIKS_CORE_E_NO_STATE, if there are 2^32 stored epochs, changes,
  * alarms or marks or more, a key has 2^32 bytes or more, or the watched name has no byte or more than 255.
  */
-CONIKS_NODISCARD CONIKS_NONNULL((1, 2, 3))
-uint32_t coniks_core_state_size(const coniks_bytes32 *policy, const coniks_saved *saved, size_t *size);
+CONIKS_NODISCARD CONIKS_NONNULL((1, 2))
+uint32_t coniks_core_state_size(const coniks_core *core, size_t *size);
 
 /* Writes a client's state to the first *size of `room` bytes. Returns CONIKS_GOOD, or the first of 143 and 137. */
-CONIKS_NODISCARD CONIKS_NONNULL((1, 2, 5))
-uint32_t coniks_core_state_write(const coniks_bytes32 *policy, const coniks_saved *saved, uint8_t *state, size_t room,
-                                 size_t *size);
-
-/* Finds what a client needs for a state: the room, and the entries whose signatures the caller has to verify. Returns CONIKS_GOOD, or the
- * first of 96 to 100. */
 CONIKS_NODISCARD CONIKS_NONNULL((1, 4))
-uint32_t coniks_core_state_needs(const coniks_bytes32 *policy, const uint8_t *state, size_t state_length,
-                                 coniks_state_needs *needs);
+uint32_t coniks_core_state_write(const coniks_core *core, uint8_t *state, size_t room, size_t *size);
+
+/* Finds what a client needs for a state: the room, and the entries whose signatures the caller has to verify. Of the client only the rules
+ * are read. Returns CONIKS_GOOD, or the first of 96 to 100. */
+CONIKS_NODISCARD CONIKS_NONNULL((1, 4))
+uint32_t coniks_core_state_needs(const coniks_core *core, const uint8_t *state, size_t state_length, coniks_state_needs *needs);
 
 /*
- * Reads a client's state. verdicts[k] is the verdict on the signature of entry k; one that is missing is not valid. `trust` is the SHA-256
- * of the trust document that the client names, all bytes 0 without one, and `marks` has a place for each of its `auditors`. Returns
- * CONIKS_GOOD, with the client: *count kept epochs, the watched name, *change_count changes, *alarm_count alarms, and the marks. The marks
- * are 0 if the state is of another trust document, or of another number of auditors. The name and the keys are parts of the state's bytes,
- * which the caller keeps. Else returns the first of 96 to 100, 137 and 101, and nothing is written.
+ * Reads a client's state. verdicts[k] is the verdict on the signature of entry k; one that is missing is not valid. Returns CONIKS_GOOD, with
+ * the stored epochs, the watched name, the changes, the alarms and the marks. The marks are 0 if the state is of another trust document, or
+ * of another number of auditors. The name and the keys are parts of the state's bytes, which the caller keeps. Else returns the first of 96
+ * to 100, 137 and 101, and nothing is written.
  */
-CONIKS_NODISCARD CONIKS_NONNULL((1, 6, 9, 10, 13, 16))
-uint32_t coniks_core_state_read(const coniks_bytes32 *policy, const uint8_t *state, size_t state_length,
-                                const uint32_t *verdicts, size_t verdict_count, const coniks_bytes32 *trust, coniks_kept *kept,
-                                size_t room, size_t *count, coniks_watch *watch, coniks_change *changes, size_t change_room,
-                                size_t *change_count, coniks_alarm *alarms, size_t alarm_room, size_t *alarm_count,
-                                uint64_t *marks, size_t auditors);
+CONIKS_NODISCARD CONIKS_NONNULL((1))
+uint32_t coniks_core_state_read(coniks_core *core, const uint8_t *state, size_t state_length, const uint32_t *verdicts,
+                                size_t verdict_count);
 
 #ifdef __cplusplus
 }

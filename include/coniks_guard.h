@@ -1,7 +1,7 @@
 /*
  * A guard of a signing key, which lets it sign one chain, over memory of the caller. Two signed bodies that one chain can't have
  * convict the key's owner, and an old backup of the log or a second service would make such bodies. docs/STORED.md, "The guard's
- * record", defines the record and its steps. What is said of proofs, memory, stack, threads and pointers in coniks.h holds here too.
+ * record", defines the record and its steps. What is stated about proofs, memory, stack, threads and pointers in coniks.h holds here too.
  *
  * The caller stores the record: the last entry signed, the open body, and the abandoned bodies. It reads the record, calls one of the
  * steps, and replaces the record that it read, durably, if that is still there; else it begins again with the one that is. So many

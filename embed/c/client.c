@@ -38,39 +38,46 @@ void coniks_client_begin_settings(coniks_client_settings *settings)
     settings->skew = 300;
 }
 
+/* Takes the policy and the keys. */
 static uint32_t take_policy(coniks_client *client)
 {
     const coniks_client_settings *settings = &client->settings;
-    if (settings->policy)
-        return client_read_policy(client_slice_of(settings->policy, settings->policy_length), &client->policy);
+    coniks_rules *rules = &client->core.rules;
+    struct keys keys;
+    uint32_t status;
+    if (settings->policy) {
+        status = client_read_policy(client_slice_of(settings->policy, settings->policy_length), &keys, rules);
+        return status ? status : client_take_keys(client, &keys);
+    }
     if (settings->policy_digest == NULL)
         return CONIKS_CLIENT_E_POLICY_FORM;
-    client->policy.digest = *settings->policy_digest;
-    return 0;
+    rules->policy = *settings->policy_digest;
+    return client_take_keys(client, NULL);
 }
 
 /* Takes the trust document, and makes a mark for each of its auditors. */
 static uint32_t take_trust(coniks_client *client)
 {
     const coniks_client_settings *settings = &client->settings;
-    struct array *marks = &client->marks;
+    coniks_core *core = &client->core;
     if (settings->trust == NULL)
         return 0;
-    client->trust = *settings->trust;
-    client->quorum = coniks_core_quorum(settings->auditors, settings->faulty);
-    if (client->quorum == 0)
+    core->rules.trust = *settings->trust;
+    core->rules.quorum = coniks_core_quorum(settings->auditors, settings->faulty);
+    if (core->rules.quorum == 0)
         return CONIKS_CLIENT_E_QUORUM;
-    if (client_reserve(client, marks, settings->auditors, sizeof(uint64_t)))
+    core->marks = client_allocate(client, settings->auditors, sizeof *core->marks);
+    if (core->marks == NULL)
         return CONIKS_CLIENT_E_MEMORY;
-    marks->count = settings->auditors;
-    client_clear(marks->items, marks->count * sizeof(uint64_t));
+    core->mark_count = settings->auditors;
+    client_clear(core->marks, core->mark_count * sizeof *core->marks);
     return 0;
 }
 
 /* Takes the limits, which count by the policy's clock. */
 static void take_limits(coniks_client *client)
 {
-    coniks_present *clock = &client->policy.clock;
+    coniks_clock *clock = &client->core.rules.clock;
     clock->max_age = client->settings.max_age;
     if (clock->max_age == CONIKS_CLIENT_TWO_PERIODS && clock->period <= UINT64_MAX / 2)
         clock->max_age = 2 * clock->period;
@@ -101,8 +108,6 @@ uint32_t coniks_client_new(coniks_client **client, const coniks_client_settings 
     made->settings = *settings;
     status = take_policy(made);
     if (status == 0)
-        status = client_take_keys(made);
-    if (status == 0)
         status = take_trust(made);
     take_limits(made);
     *client = made;
@@ -116,21 +121,18 @@ uint32_t coniks_client_resume(coniks_client **client, const coniks_client_settin
     return status ? status : hand_over(client, client_take_state(*client, client_slice_of(state, state_length)));
 }
 
-coniks_present client_present(const coniks_client *client)
+uint64_t client_time(const coniks_client *client)
 {
-    coniks_present it = client->policy.clock;
-    it.time = client->settings.clock(client->settings.clock_context);
-    return it;
+    return client->settings.clock(client->settings.clock_context);
 }
 
 /* Writes what convicts together with an entry. */
 static void fill_evidence(const coniks_client *client, const uint8_t *entry, const coniks_why *why, coniks_client_evidence *to)
 {
-    const coniks_kept *kept = client->kept.items;
     to->kind = why->kind;
     if (why->kind == 0)
         return;
-    memcpy(to->mine, why->mine == SIZE_MAX ? entry : kept[why->mine].entry, sizeof to->mine);
+    memcpy(to->mine, why->mine == SIZE_MAX ? entry : client->core.stored.items[why->mine].entry, sizeof to->mine);
     memcpy(to->other, entry, sizeof to->other);
 }
 
@@ -144,87 +146,88 @@ uint32_t client_refused(const coniks_client *client, uint32_t status, const uint
     return status;
 }
 
-/* The heads of the auditors that vouch for a first entry, and how many must. */
-struct heads {
-    coniks_head list[MANY_HEADS];
-    size_t count, least;
-};
-
-/* Accepts an entry: the first one if there are heads, else one that continues the chain. */
-static uint32_t accept(coniks_client *client, struct slice entry, const struct heads *heads, coniks_client_refusal *why)
+/* Verifies an entry that was received, and makes room for it. */
+static uint32_t receive(coniks_client *client, struct slice entry, coniks_received *received)
 {
     const uint32_t is_signed = client_signature_verdict(client, entry.bytes, entry.length);
-    const uint64_t time = client_present(client).time;
-    coniks_why reason = {0};
-    uint32_t status = client_reserve_epochs(client, 1, client->alarms.count);
-    if (status)
-        return status;
-    if (heads)
-        status = coniks_core_start(&client->policy.digest, WRITTEN(client->kept), &client->watch, heads->list, heads->count,
-                                   heads->least, entry.bytes, entry.length, is_signed, time, &reason);
-    else
-        status = coniks_core_feed(&client->policy.digest, WRITTEN(client->kept), &client->watch, ITEMS(client->marks),
-                                  entry.bytes, entry.length, is_signed, time, &reason);
-    return client_refused(client, status, entry.bytes, &reason, why);
+    *received = (coniks_received){entry.bytes, entry.length, is_signed, client_time(client)};
+    return client_reserve_epochs(client, 1, client->core.alarms.count);
 }
 
-uint32_t coniks_client_vouched(coniks_client **client, const coniks_client_settings *settings, const uint8_t *entry,
-                               size_t entry_length, const coniks_client_head *heads, size_t head_count, size_t least,
-                               coniks_client_refusal *why)
+/* Accepts the first entry. The auditors that vouch for it are a quorum of their own. */
+static uint32_t start(coniks_client *client, const coniks_client_vouching *vouching, coniks_client_refusal *why)
 {
-    struct heads given;
+    coniks_rules *rules = &client->core.rules;
+    const size_t quorum = rules->quorum;
+    coniks_head heads[MANY_HEADS];
+    coniks_received received;
+    coniks_why reason = {0};
+    uint32_t status = receive(client, client_slice_of(vouching->entry, vouching->entry_length), &received);
+    size_t i;
+    if (status)
+        return status;
+    for (i = 0; i < vouching->head_count; i++)
+        heads[i] = (coniks_head){1, vouching->heads[i].epoch, vouching->heads[i].link};
+    rules->quorum = vouching->least;
+    status = coniks_core_start(&client->core, heads, vouching->head_count, &received, &reason);
+    rules->quorum = quorum;
+    return client_refused(client, status, vouching->entry, &reason, why);
+}
+
+uint32_t coniks_client_vouched(coniks_client **client, const coniks_client_settings *settings,
+                               const coniks_client_vouching *vouching, coniks_client_refusal *why)
+{
     uint32_t status = coniks_client_new(client, settings);
     client_clear(why, sizeof *why);
     if (status)
         return status;
-    if (least == 0)
+    if (vouching->least == 0)
         return hand_over(client, CONIKS_CLIENT_E_LEAST);
-    if (head_count > MANY_HEADS)
+    if (vouching->head_count > MANY_HEADS)
         return hand_over(client, CONIKS_CLIENT_E_MANY_HEADS);
-    given.least = least;
-    for (given.count = 0; given.count < head_count; given.count++) {
-        const coniks_client_head *head = &heads[given.count];
-        given.list[given.count] = (coniks_head){1, head->epoch, head->link};
-    }
-    return hand_over(client, accept(*client, client_slice_of(entry, entry_length), &given, why));
+    return hand_over(client, start(*client, vouching, why));
 }
 
 uint32_t coniks_client_feed(coniks_client *client, const uint8_t *entry, size_t entry_length, coniks_client_step *step,
                             coniks_client_refusal *why)
 {
-    const coniks_kept *kept;
+    const coniks_stored *stored = &client->core.stored;
+    coniks_received received;
+    coniks_why reason = {0};
     uint32_t status;
     client_clear(step, sizeof *step);
     client_clear(why, sizeof *why);
-    status = accept(client, client_slice_of(entry, entry_length), NULL, why);
+    status = receive(client, client_slice_of(entry, entry_length), &received);
+    if (status == 0)
+        status = coniks_core_feed(&client->core, &received, &reason);
     if (status || step == NULL)
-        return status;
-    kept = (const coniks_kept *)client->kept.items + client->kept.count - 1;
-    step->epoch = client_epoch_of(kept->entry);
-    step->seen = kept->seen;
+        return client_refused(client, status, entry, &reason, why);
+    step->epoch = client_epoch_of(stored->items[stored->count - 1].entry);
+    step->seen = stored->items[stored->count - 1].seen;
     return 0;
 }
 
-uint32_t coniks_client_catch_up(coniks_client *client, const uint8_t *catch_up, size_t length, coniks_client_step *steps,
-                                size_t *accepted, coniks_client_refusal *why)
+uint32_t coniks_client_catch_up(coniks_client *client, const uint8_t *catch_up, size_t length, coniks_client_steps *steps,
+                                coniks_client_refusal *why)
 {
     size_t done = 0, count = 0;
     uint32_t status = coniks_core_catch_up(catch_up, length, &count);
     client_clear(why, sizeof *why);
     while (status == 0 && done < count) {
         const uint8_t *entry = catch_up + done * CONIKS_ENTRY_BYTES;
-        status = coniks_client_feed(client, entry, CONIKS_ENTRY_BYTES, steps ? &steps[done] : NULL, why);
+        coniks_client_step *step = steps && done < steps->room ? &steps->items[done] : NULL;
+        status = coniks_client_feed(client, entry, CONIKS_ENTRY_BYTES, step, why);
         if (status == 0)
             done++;
     }
-    if (accepted)
-        *accepted = done;
+    if (steps)
+        steps->count = done;
     return status;
 }
 
 uint32_t coniks_client_latest(const coniks_client *client, coniks_client_head *head)
 {
-    const uint8_t *entry = coniks_client_entry(client, client->kept.count - 1);
+    const uint8_t *entry = coniks_client_entry(client, client->core.stored.count - 1);
     memset(head, 0, sizeof *head);
     if (entry == NULL)
         return CONIKS_E_NO_ENTRY;
@@ -234,27 +237,28 @@ uint32_t coniks_client_latest(const coniks_client *client, coniks_client_head *h
 
 size_t coniks_client_count(const coniks_client *client)
 {
-    return client->kept.count;
+    return client->core.stored.count;
 }
 
 const uint8_t *coniks_client_entry(const coniks_client *client, size_t place)
 {
-    const coniks_kept *kept = client->kept.items;
-    return place < client->kept.count ? kept[place].entry : NULL;
+    const coniks_stored *stored = &client->core.stored;
+    return place < stored->count ? stored->items[place].entry : NULL;
 }
 
 uint32_t coniks_client_compare(const coniks_client *client, const coniks_client_head *head)
 {
     size_t place;
-    return coniks_core_compare(ITEMS(client->kept), head->epoch, &head->link, &place);
+    return coniks_core_compare(&client->core, head->epoch, &head->link, &place);
 }
 
 uint32_t coniks_client_evidence_of(const coniks_client *client, const uint8_t *entry, size_t entry_length,
                                    coniks_client_evidence *evidence)
 {
     const uint32_t is_signed = client_signature_verdict(client, entry, entry_length);
+    const coniks_received received = {entry, entry_length, is_signed, 0};
     coniks_why why = {0};
-    uint32_t status = coniks_core_evidence(ITEMS(client->kept), entry, entry_length, is_signed, &why);
+    uint32_t status = coniks_core_evidence(&client->core, &received, &why);
     memset(evidence, 0, sizeof *evidence);
     if (status == CONIKS_NO_EVIDENCE) {
         why.mine = SIZE_MAX;

@@ -1,6 +1,6 @@
 /*
  * A client of a CONIKS key directory in C, over coniks_core.h and libsodium: it verifies signatures, the chain, VRF proofs, paths and
- * the asked epoch. What it accepts is decided by the core; here are memory, cryptography and texts. To take it over, copy client.h,
+ * the requested epoch. What it accepts is decided by the core; here are memory, cryptography and texts. To take it over, copy client.h,
  * client_parts.h and the ten files of the build line below.
  *
  *     coniks_client_begin_settings(&settings);                    the keys and the policy that the directory publishes
@@ -10,7 +10,7 @@
  *     settings.policy_length = document_length;
  *     status = coniks_client_new(&client, &settings);             0 is success, everything else is none
  *     status = coniks_client_catch_up(client, ...);               all entries since the last one
- *     status = coniks_client_lookup(client, name, ..., &found);   found.key is the name's key, if found.shows says so
+ *     status = coniks_client_lookup(client, &asking, ...);        found.key is the name's key, if found.shows says so
  *     coniks_client_free(client);
  *
  * Statuses. A call that can fail returns 0 for success, a status of coniks.h, or one of `enum coniks_client_status`. If several
@@ -21,7 +21,7 @@
  * Memory. The client allocates by `settings.memory`, and frees all of it in coniks_client_free. It keeps up to 468 bytes for each
  * entry, 16 for each alarm, 8 for each auditor, and 32 and the new key for each change of the watched key. Keys that it drops are freed, and
  * other room is used again. No length in a message decides how much is allocated: beside what is kept, a history takes 32 bytes for each
- * kept entry while the call lasts, and a state 4. Calls use at most 32 KiB of stack.
+ * stored entry while the call lasts, and a state 4. Calls use at most 32 KiB of stack.
  *
  * Threads. There is no global state. A client is for one thread at a time, and can't be copied: one of both would miss what the
  * other is fed. Pass its state on instead.
@@ -131,11 +131,18 @@ typedef struct coniks_client_signatures {
     void *context;
 } coniks_client_signatures;
 
+/* A name, and the VRF proof that a message has for it. A directory without a VRF has the proof of no byte. */
+typedef struct coniks_client_proof {
+    const uint8_t *name;
+    size_t name_length;
+    const uint8_t *proof;
+    size_t proof_length;
+} coniks_client_proof;
+
 /* Verifies where names are stored, in place of a VRF's key. Returns 1 and writes the index if the proof is one of this name; any
- * other number means that it is not. A directory without a VRF has the proof of no byte. */
+ * other number means that it is not. */
 typedef struct coniks_client_indices {
-    int (*index)(void *context, const uint8_t *name, size_t name_length, const uint8_t *proof, size_t proof_length,
-                 coniks_bytes32 *index);
+    int (*index)(void *context, const coniks_client_proof *proof, coniks_bytes32 *index);
     void *context;
 } coniks_client_indices;
 
@@ -172,6 +179,16 @@ typedef struct coniks_client_head {
     coniks_bytes32 link;
 } coniks_client_head;
 
+/* The first entry of a chain, and the head of each auditor for its epoch, one for each, at most 64. At least `least` of them must be that of
+ * the entry. */
+typedef struct coniks_client_vouching {
+    const uint8_t *entry;
+    size_t entry_length;
+    const coniks_client_head *heads;
+    size_t head_count;
+    size_t least;
+} coniks_client_vouching;
+
 /* Two signed entries that convict the owner of the signing key. `mine` is one that the client keeps, or `other` itself if no
  * chain has it. `kind` is one of `enum coniks_evidence`, 0 if there is no evidence. */
 typedef struct coniks_client_evidence {
@@ -192,6 +209,13 @@ typedef struct coniks_client_step {
     uint32_t seen;
 } coniks_client_step;
 
+/* The entries of a catch-up: the first `count` were accepted. As many steps of them are written as there is room for. */
+typedef struct coniks_client_steps {
+    coniks_client_step *items;
+    size_t room;
+    size_t count;
+} coniks_client_steps;
+
 /* What an accepted reply shows. The key is a part of the reply's bytes, or of the history's. */
 typedef struct coniks_client_found {
     uint32_t shows; /* one of `enum coniks_client_shows` */
@@ -203,6 +227,13 @@ typedef struct coniks_client_found {
     int has_age;         /* 1 if the policy has a clock */
     int64_t age;         /* how many seconds ago the epoch began by it, below 0 if it has not begun, within the type's limits */
 } coniks_client_found;
+
+/* What a history shows: the first `count` of `items`, one for each of its epochs. */
+typedef struct coniks_client_shown {
+    coniks_client_found *items;
+    size_t room;
+    size_t count;
+} coniks_client_shown;
 
 typedef struct coniks_client coniks_client;
 
@@ -224,15 +255,13 @@ uint32_t coniks_client_resume(coniks_client **client, const coniks_client_settin
                               size_t state_length);
 
 /*
- * Makes a client whose chain begins with an entry that at least `least` auditors have. `heads` has the head of each auditor for
- * that entry's epoch, one for each, at most 64; get each from the auditor itself. With a trust document, call coniks_client_mark with each
- * of them afterwards. Also returns the errors of the entry alone (48, 40, 80, 81), 105, 104, CONIKS_CLIENT_E_LEAST and
- * CONIKS_CLIENT_E_MANY_HEADS. `why` may be NULL.
+ * Makes a client whose chain begins with an entry that auditors have. Get each head from the auditor itself. With a trust document, call
+ * coniks_client_mark with each of them afterwards. Also returns the errors of the entry alone (48, 40, 80, 81), 105, 104,
+ * CONIKS_CLIENT_E_LEAST and CONIKS_CLIENT_E_MANY_HEADS. `why` may be NULL.
  */
-CONIKS_NODISCARD CONIKS_NONNULL((1, 2))
-uint32_t coniks_client_vouched(coniks_client **client, const coniks_client_settings *settings, const uint8_t *entry,
-                               size_t entry_length, const coniks_client_head *heads, size_t head_count, size_t least,
-                               coniks_client_refusal *why);
+CONIKS_NODISCARD CONIKS_NONNULL((1, 2, 3))
+uint32_t coniks_client_vouched(coniks_client **client, const coniks_client_settings *settings,
+                               const coniks_client_vouching *vouching, coniks_client_refusal *why);
 
 /* Frees a client; NULL is none. */
 void coniks_client_free(coniks_client *client);
@@ -245,40 +274,35 @@ uint32_t coniks_client_feed(coniks_client *client, const uint8_t *entry, size_t 
                             coniks_client_refusal *why);
 
 /*
- * Accepts the entries of a catch-up, which continue the chain. *accepted is how many were; those before a refused one are kept.
- * `steps` has room for a step of each entry. Returns 0, 68, or the error of the first entry that was refused. `steps`, `accepted`
- * and `why` may be NULL.
+ * Accepts the entries of a catch-up, which continue the chain; those before a refused one are kept. Returns 0, 68, or the error of the
+ * first entry that was refused. `steps` and `why` may be NULL.
  */
 CONIKS_NODISCARD CONIKS_NONNULL((1))
-uint32_t coniks_client_catch_up(coniks_client *client, const uint8_t *catch_up, size_t length, coniks_client_step *steps,
-                                size_t *accepted, coniks_client_refusal *why);
+uint32_t coniks_client_catch_up(coniks_client *client, const uint8_t *catch_up, size_t length, coniks_client_steps *steps,
+                                coniks_client_refusal *why);
 
 /*
- * Writes what a reply shows of a name, at the epoch that was asked for, or at the latest one if `epoch` is NULL. Ask for a number
- * of your own, never for that of the reply. Returns 0, or the first error of "A client's lookup". `why` may be NULL.
+ * Writes what a reply shows of a name, at the epoch that was requested, or at the latest one. Ask for a number of your own, never for that
+ * of the reply. The time of `asking` is not read. Returns 0, or the first error of "A client's lookup". `why` may be NULL.
  */
-CONIKS_NODISCARD CONIKS_NONNULL((1, 7))
-uint32_t coniks_client_lookup(coniks_client *client, const uint8_t *name, size_t name_length, const uint8_t *reply,
-                              size_t reply_length, const uint64_t *epoch, coniks_client_found *found,
+CONIKS_NODISCARD CONIKS_NONNULL((1, 2, 3))
+uint32_t coniks_client_lookup(coniks_client *client, const coniks_asking *asking, coniks_client_found *found,
                               coniks_client_refusal *why);
 
 /*
- * Writes what a history shows of a name, one for each of its epochs, in `found`, which has room for `room`. There are at most
- * as many as the client keeps entries. Returns 0, or the first error of "A client's lookup", CONIKS_CLIENT_E_ROOM or
- * CONIKS_CLIENT_E_MEMORY; then *count is 0.
+ * Writes what a history shows of a name. It has at most as many epochs as the client keeps entries. Returns 0, or the first error of
+ * "A client's lookup", CONIKS_CLIENT_E_ROOM or CONIKS_CLIENT_E_MEMORY; then the count of `shown` is 0.
  */
-CONIKS_NODISCARD CONIKS_NONNULL((1, 8))
-uint32_t coniks_client_history(coniks_client *client, const uint8_t *name, size_t name_length, const uint8_t *history,
-                               size_t history_length, coniks_client_found *found, size_t room, size_t *count);
+CONIKS_NODISCARD CONIKS_NONNULL((1, 2, 3))
+uint32_t coniks_client_history(coniks_client *client, const coniks_history *asking, coniks_client_shown *shown);
 
 /*
- * Watches the client's own name: each epoch from *since on, by default the latest, must show the key, or none if `key` is NULL. A
- * client watches one name for its life. The same call once more changes nothing. Returns 0, 130 to 132, or
- * CONIKS_CLIENT_E_MEMORY.
+ * Watches the client's own name, that of `wanted`: each epoch from its epoch `since` on if `is_since` is 1, else from the latest one on,
+ * must show its key, or none if that is NULL. A client watches one name for its life. The same call once more changes nothing. Returns 0,
+ * 130 to 132, or CONIKS_CLIENT_E_MEMORY.
  */
-CONIKS_NODISCARD CONIKS_NONNULL((1))
-uint32_t coniks_client_watch(coniks_client *client, const uint8_t *name, size_t name_length, const uint8_t *key,
-                             size_t key_length, const uint64_t *since);
+CONIKS_NODISCARD CONIKS_NONNULL((1, 2))
+uint32_t coniks_client_watch(coniks_client *client, const coniks_watch *wanted, uint32_t is_since);
 
 /*
  * Expects the owner's own change of the key: later epochs may show the old or the new key, and from epoch `by` on only the new
@@ -307,7 +331,7 @@ uint32_t coniks_client_latest(const coniks_client *client, coniks_client_head *h
 CONIKS_NODISCARD CONIKS_NONNULL((1))
 size_t coniks_client_count(const coniks_client *client);
 
-/* Returns the 209 bytes of an entry that is kept, from 0 on in the order of the chain, until the next call that changes the
+/* Returns the 209 bytes of an entry that is stored, from 0 on in the order of the chain, until the next call that changes the
  * client. Returns NULL after the last one. */
 CONIKS_NODISCARD CONIKS_NONNULL((1))
 const uint8_t *coniks_client_entry(const coniks_client *client, size_t place);
@@ -334,7 +358,7 @@ uint32_t coniks_client_mark(coniks_client *client, size_t auditor, const coniks_
 CONIKS_NODISCARD CONIKS_NONNULL((1, 2))
 uint32_t coniks_client_confirmed(const coniks_client *client, uint64_t *epoch);
 
-/* Returns 0 if the client may rely on what a kept epoch shows, since a quorum confirms it, or CONIKS_CLIENT_E_NOT_CONFIRMED, or 83. */
+/* Returns 0 if the client may rely on what a stored epoch shows, since a quorum confirms it, or CONIKS_CLIENT_E_NOT_CONFIRMED, or 83. */
 CONIKS_NODISCARD CONIKS_NONNULL((1))
 uint32_t coniks_client_relied(const coniks_client *client, uint64_t epoch);
 

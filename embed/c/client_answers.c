@@ -177,23 +177,73 @@ static const char *const SEEN[] = {"-", "same", "", "changed", "absent", "missin
 static const char *const REPORTS[] = {"", "changed", "missing", "lost", "unwatched", "unconfirmed", "good"};
 static const char *const COMPARISONS[] = {"", "equal", "unknown", "differs"};
 
+/* clang-format off */
 static const struct {
     uint32_t status;
     const char *name;
 } NAMES[] = {
-    {2, "TooDeep"},        {3, "NameLength"},       {4, "KeyLength"},     {5, "WrongName"},        {6, "OtherIsSame"},
-    {7, "OtherOffPath"},   {8, "RootMismatch"},     {17, "NoBytes"},      {18, "UnknownKind"},     {19, "CutInCount"},
-    {20, "CutInSiblings"}, {21, "CutInOther"},      {22, "CutInOpening"}, {23, "CutInName"},       {24, "CutInKey"},
-    {25, "BytesFollow"},   {33, "Version"},         {34, "VersionBack"},  {35, "FirstEpoch"},      {36, "NotLater"},
-    {37, "PreviousEpoch"}, {38, "PreviousLink"},    {39, "NonceChanged"}, {40, "Signature"},       {48, "EntryLength"},
-    {64, "NoReply"},       {65, "ReplyVersion"},    {66, "CutInEntry"},   {67, "CutInVrf"},        {68, "CatchUpLength"},
-    {69, "NoHistory"},     {70, "HistoryVersion"},  {71, "CutInStep"},    {72, "EpochOrder"},      {73, "UnknownEnd"},
-    {74, "SiblingMap"},    {75, "SiblingRepeated"}, {76, "EndRepeated"},  {80, "OtherPolicy"},     {81, "Malformed"},
-    {82, "Equivocation"},  {83, "UnknownEpoch"},    {84, "OtherEpoch"},   {85, "Stale"},           {86, "Future"},
-    {87, "VrfProof"},      {96, "StateLength"},     {97, "StateVersion"}, {98, "StateDamaged"},    {99, "StatePolicy"},
-    {100, "StateForm"},    {101, "StateChain"},     {104, "NotVouched"},  {105, "AuditorsDiffer"}, {112, "SigningKey"},
-    {113, "VrfKey"},       {114, "PolicyKeys"},
+    /* formats.toml: names */
+    {2, "TooDeep"},
+    {3, "NameLength"},
+    {4, "KeyLength"},
+    {5, "WrongName"},
+    {6, "OtherIsSame"},
+    {7, "OtherOffPath"},
+    {8, "RootMismatch"},
+    {17, "NoBytes"},
+    {18, "UnknownKind"},
+    {19, "CutInCount"},
+    {20, "CutInSiblings"},
+    {21, "CutInOther"},
+    {22, "CutInOpening"},
+    {23, "CutInName"},
+    {24, "CutInKey"},
+    {25, "BytesFollow"},
+    {33, "Version"},
+    {34, "VersionBack"},
+    {35, "FirstEpoch"},
+    {36, "NotLater"},
+    {37, "PreviousEpoch"},
+    {38, "PreviousLink"},
+    {39, "NonceChanged"},
+    {40, "Signature"},
+    {48, "EntryLength"},
+    {49, "NoEntry"},
+    {64, "NoReply"},
+    {65, "ReplyVersion"},
+    {66, "CutInEntry"},
+    {67, "CutInVrf"},
+    {68, "CatchUpLength"},
+    {69, "NoHistory"},
+    {70, "HistoryVersion"},
+    {71, "CutInStep"},
+    {72, "EpochOrder"},
+    {73, "UnknownEnd"},
+    {74, "SiblingMap"},
+    {75, "SiblingRepeated"},
+    {76, "EndRepeated"},
+    {80, "OtherPolicy"},
+    {81, "Malformed"},
+    {82, "Equivocation"},
+    {83, "UnknownEpoch"},
+    {84, "OtherEpoch"},
+    {85, "Stale"},
+    {86, "Future"},
+    {87, "VrfProof"},
+    {96, "StateLength"},
+    {97, "StateVersion"},
+    {98, "StateDamaged"},
+    {99, "StatePolicy"},
+    {100, "StateForm"},
+    {101, "StateChain"},
+    {104, "NotVouched"},
+    {105, "AuditorsDiffer"},
+    {112, "SigningKey"},
+    {113, "VrfKey"},
+    {114, "PolicyKeys"},
+    /* formats.toml: end */
 }; /* the names of docs/FORMATS.md */
+/* clang-format on */
 
 static void print_evidence(const coniks_client_evidence *evidence)
 {
@@ -231,12 +281,12 @@ static void print_refusal(uint32_t status, const coniks_client_refusal *why)
 static const coniks_client_refusal NO_REASON;
 
 /* Prints the word of a call that succeeded, or why it did not. */
-static void print_result(uint32_t status, const char *said)
+static void print_result(uint32_t status, const char *message)
 {
     if (status)
         print_refusal(status, &NO_REASON);
     else
-        puts(said);
+        puts(message);
 }
 
 /* Makes the client of a request, from its state or from an entry that auditors have. */
@@ -246,6 +296,8 @@ static uint32_t make(struct answerer *it, const coniks_client_settings *settings
     size_t i, count = is_vouched ? it->count - 9 : 0;
     struct bytes given = bytes_at(it, 7);
     coniks_client_head *heads = own(count * sizeof *heads);
+    const size_t least = is_vouched ? (size_t)number(word(it, 8)) : 0;
+    const coniks_client_vouching vouching = {given.at, given.length, heads, count, least};
     struct trial trial = begin_trial(it);
     uint32_t status;
     for (i = 0; i < count; i++) {
@@ -256,8 +308,7 @@ static uint32_t make(struct answerer *it, const coniks_client_settings *settings
     }
     do {
         if (is_vouched)
-            status = coniks_client_vouched(&it->client, settings, given.at, given.length, heads, count,
-                                           (size_t)number(word(it, 8)), why);
+            status = coniks_client_vouched(&it->client, settings, &vouching, why);
         else if (given.at)
             status = coniks_client_resume(&it->client, settings, given.at, given.length);
         else
@@ -359,15 +410,16 @@ static void feed(struct answerer *it)
 static void catch_up(struct answerer *it)
 {
     struct bytes given = bytes_at(it, 1);
-    coniks_client_step *steps = own((given.length / CONIKS_ENTRY_BYTES) * sizeof *steps);
+    size_t done = 0, room = given.length / CONIKS_ENTRY_BYTES;
+    coniks_client_step *steps = own(room * sizeof *steps);
     coniks_client_refusal why;
     uint32_t status;
-    size_t done = 0, more;
     it->blocks.left = it->is_refusing ? 0 : SIZE_MAX;
     do {
-        status = coniks_client_catch_up(it->client, given.at + done * CONIKS_ENTRY_BYTES,
-                                        given.length - done * CONIKS_ENTRY_BYTES, &steps[done], &more, &why);
-        done += more;
+        coniks_client_steps more = {&steps[done], room - done, 0};
+        const size_t start = done * CONIKS_ENTRY_BYTES;
+        status = coniks_client_catch_up(it->client, given.at + start, given.length - start, &more, &why);
+        done += more.count;
         it->blocks.left = 1;
     } while (it->is_refusing && status == CONIKS_CLIENT_E_MEMORY);
     free(given.at);
@@ -392,14 +444,13 @@ static void print_found(const coniks_client_found *found)
 static void look_up(struct answerer *it)
 {
     struct bytes name = bytes_at(it, 1), reply = bytes_at(it, 2);
-    uint64_t epoch = number(word(it, 3));
+    const coniks_asking asking = {name.at, name.length, reply.at, reply.length, !is_nothing(it, 3), number(word(it, 3)), 0};
     coniks_client_found found;
     coniks_client_refusal why;
     struct trial trial = begin_trial(it);
     uint32_t status;
     do
-        status = coniks_client_lookup(it->client, name.at, name.length, reply.at, reply.length,
-                                      is_nothing(it, 3) ? NULL : &epoch, &found, &why);
+        status = coniks_client_lookup(it->client, &asking, &found, &why);
     while (is_tried_again(it, &trial, status));
     if (status) {
         print_refusal(status, &why);
@@ -415,34 +466,35 @@ static void look_up(struct answerer *it)
 static void go_through(struct answerer *it)
 {
     struct bytes name = bytes_at(it, 1), history = bytes_at(it, 2);
-    size_t i, count, room = coniks_client_count(it->client);
-    coniks_client_found *found = own(room * sizeof *found);
+    const coniks_history asking = {name.at, name.length, history.at, history.length};
+    size_t i, room = coniks_client_count(it->client);
+    coniks_client_shown shown = {own(room * sizeof *shown.items), room, 0};
     struct trial trial = begin_trial(it);
     uint32_t status;
     do
-        status = coniks_client_history(it->client, name.at, name.length, history.at, history.length, found, room, &count);
+        status = coniks_client_history(it->client, &asking, &shown);
     while (is_tried_again(it, &trial, status));
     if (status) {
         print_refusal(status, &NO_REASON);
     } else {
         printf("found");
-        for (i = 0; i < count; i++)
-            print_found(&found[i]);
+        for (i = 0; i < shown.count; i++)
+            print_found(&shown.items[i]);
         putchar('\n');
     }
     free(name.at);
     free(history.at);
-    free(found);
+    free(shown.items);
 }
 
 static void watch(struct answerer *it)
 {
     struct bytes name = bytes_at(it, 1), key = bytes_at(it, 2);
-    uint64_t since = number(word(it, 3));
+    const coniks_watch wanted = {1, name.at, name.length, number(word(it, 3)), key.at, key.length};
     struct trial trial = begin_trial(it);
     uint32_t status;
     do
-        status = coniks_client_watch(it->client, name.at, name.length, key.at, key.length, is_nothing(it, 3) ? NULL : &since);
+        status = coniks_client_watch(it->client, &wanted, !is_nothing(it, 3));
     while (is_tried_again(it, &trial, status));
     print_result(status, "watching");
     free(name.at);

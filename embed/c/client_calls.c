@@ -25,13 +25,13 @@ static void check(int is_well, const char *what, int line)
 }
 
 /* How much is allocated at most at once and in all, how often it still is, what a scheme returns, and what it was given last. */
-struct told {
+struct reported {
     size_t largest, live, granted;
     uint64_t now;
     int result;
     size_t verified; /* how many signatures */
     uint8_t entry[CONIKS_ENTRY_BYTES];
-    struct slice name, proof;
+    coniks_client_proof proof;
 };
 
 /* Before each block stands its size. */
@@ -40,56 +40,54 @@ union header {
     long double alignment;
 };
 
-static void *counted(struct told *told, size_t size)
+static void *counted(struct reported *reported, size_t size)
 {
     union header *header = malloc(sizeof *header + size);
     if (header == NULL)
         exit(2);
     header->size = size;
-    told->live += size;
+    reported->live += size;
     return header + 1;
 }
 
 static void *allocate(void *context, size_t size)
 {
-    struct told *told = context;
-    if (size > told->largest)
-        told->largest = size;
-    if (told->granted == 0)
+    struct reported *reported = context;
+    if (size > reported->largest)
+        reported->largest = size;
+    if (reported->granted == 0)
         return NULL;
-    told->granted--;
-    return counted(told, size);
+    reported->granted--;
+    return counted(reported, size);
 }
 
 static void release(void *context, void *block)
 {
     union header *header = (union header *)block - 1;
-    ((struct told *)context)->live -= header->size;
+    ((struct reported *)context)->live -= header->size;
     free(header);
 }
 
 static uint64_t clock_of(void *context)
 {
-    return ((const struct told *)context)->now;
+    return ((const struct reported *)context)->now;
 }
 
 static int verify(void *context, const uint8_t *body, const uint8_t *signature)
 {
-    struct told *told = context;
-    memcpy(told->entry, body, CONIKS_BODY_BYTES);
-    memcpy(told->entry + CONIKS_BODY_BYTES, signature, CONIKS_SIGNATURE_BYTES);
-    told->verified++;
-    return told->result;
+    struct reported *reported = context;
+    memcpy(reported->entry, body, CONIKS_BODY_BYTES);
+    memcpy(reported->entry + CONIKS_BODY_BYTES, signature, CONIKS_SIGNATURE_BYTES);
+    reported->verified++;
+    return reported->result;
 }
 
-static int find(void *context, const uint8_t *name, size_t name_length, const uint8_t *proof, size_t proof_length,
-                coniks_bytes32 *index)
+static int find(void *context, const coniks_client_proof *proof, coniks_bytes32 *index)
 {
-    struct told *told = context;
-    told->name = client_slice_of(name, name_length);
-    told->proof = client_slice_of(proof, proof_length);
+    struct reported *reported = context;
+    reported->proof = *proof;
     memset(index, 7, sizeof *index);
-    return told->result;
+    return reported->result;
 }
 
 static size_t read_digits(const char *digits, uint8_t *bytes)
@@ -110,11 +108,11 @@ static size_t reply_length, history_length, state_length;
 
 #define NAME(text) (const uint8_t *)(text), strlen(text)
 
-static void begin_settings(coniks_client_settings *settings, struct told *told)
+static void begin_settings(coniks_client_settings *settings, struct reported *reported)
 {
-    memset(told, 0, sizeof *told);
-    told->now = START + PERIOD + 60;
-    told->granted = SIZE_MAX;
+    memset(reported, 0, sizeof *reported);
+    reported->now = START + PERIOD + 60;
+    reported->granted = SIZE_MAX;
     coniks_client_begin_settings(settings);
     settings->signing_key = &signing_key;
     settings->vrf_key = &vrf_key;
@@ -122,20 +120,20 @@ static void begin_settings(coniks_client_settings *settings, struct told *told)
     settings->policy_length = strlen(POLICY);
     settings->memory.allocate = allocate;
     settings->memory.release = release;
-    settings->memory.context = told;
+    settings->memory.context = reported;
     settings->clock = clock_of;
-    settings->clock_context = told;
+    settings->clock_context = reported;
 }
 
 /* A client that goes on from the example's state, without its watched name. */
-static coniks_client *fed(struct told *told)
+static coniks_client *fed(struct reported *reported)
 {
     coniks_client_settings settings;
     coniks_client *client;
-    size_t accepted;
-    begin_settings(&settings, told);
+    coniks_client_steps steps = {NULL, 0, 7};
+    begin_settings(&settings, reported);
     CHECK(coniks_client_new(&client, &settings) == 0);
-    CHECK(coniks_client_catch_up(client, state + 37, CONIKS_ENTRY_BYTES, NULL, &accepted, NULL) == 0 && accepted == 1);
+    CHECK(coniks_client_catch_up(client, state + 37, CONIKS_ENTRY_BYTES, &steps, NULL) == 0 && steps.count == 1);
     CHECK(coniks_client_feed(client, state + 37 + 218, CONIKS_ENTRY_BYTES, NULL, NULL) == 0);
     return client;
 }
@@ -150,37 +148,62 @@ static int is_zero(const void *bytes, size_t length)
     return 1;
 }
 
+/* A lookup of alice, at an epoch or at the latest one. */
+static coniks_asking asked(const uint8_t *bytes, size_t length, const uint64_t *epoch)
+{
+    const coniks_asking asking = {NAME("alice"), bytes, length, epoch != NULL, epoch ? *epoch : 0, 0};
+    return asking;
+}
+
 /* What a lookup of alice returns; after an error all of the result must be zero. */
 static uint32_t look_up(coniks_client *client, const uint8_t *bytes, size_t length, const uint64_t *epoch)
 {
+    const coniks_asking asking = asked(bytes, length, epoch);
     coniks_client_found found;
     coniks_client_refusal why;
     uint32_t status;
     memset(&found, 0xff, sizeof found);
     memset(&why, 0xff, sizeof why);
-    status = coniks_client_lookup(client, NAME("alice"), bytes, length, epoch, &found, &why);
+    status = coniks_client_lookup(client, &asking, &found, &why);
     CHECK(status == 0 || is_zero(&found, sizeof found));
     CHECK((status == CONIKS_CLIENT_E_EQUIVOCATION || status == CONIKS_CLIENT_E_OTHER_POLICY) || is_zero(&why, sizeof why));
     return status;
 }
 
+/* What a history of alice returns, with room for a number of its epochs. */
+static uint32_t go_through(coniks_client *client, struct slice bytes, coniks_client_shown *shown, size_t room)
+{
+    const coniks_history asking = {NAME("alice"), bytes.bytes, bytes.length};
+    shown->room = room;
+    return coniks_client_history(client, &asking, shown);
+}
+
+/* Watches a name from an epoch on, or from the latest one. Without a key none is expected. */
+static uint32_t watch(coniks_client *client, const char *name, const char *key, const uint64_t *since)
+{
+    const coniks_watch wanted = {1, NAME(name), since ? *since : 0, (const uint8_t *)key, key ? strlen(key) : 0};
+    return coniks_client_watch(client, &wanted, since != NULL);
+}
+
 static void try_examples(void)
 {
-    struct told told;
-    coniks_client *client = fed(&told);
+    const coniks_asking asking = asked(reply, reply_length, NULL);
+    const struct slice all = client_slice_of(history, history_length);
+    struct reported reported;
+    coniks_client *client = fed(&reported);
     coniks_client_found found[3];
-    size_t count = 7;
+    coniks_client_shown shown = {found, 0, 7};
     uint64_t epoch = 9, missing[2] = {7, 7};
-    CHECK(coniks_client_lookup(client, NAME("alice"), reply, reply_length, NULL, &found[0], NULL) == 0);
+    CHECK(coniks_client_lookup(client, &asking, &found[0], NULL) == 0);
     CHECK(found[0].shows == CONIKS_CLIENT_KEY && found[0].key == reply + 370 && found[0].key_length == 1);
-    CHECK(found[0].epoch == 2 && found[0].has_age && found[0].age == 60 && found[0].first_seen == told.now);
+    CHECK(found[0].epoch == 2 && found[0].has_age && found[0].age == 60 && found[0].first_seen == reported.now);
     CHECK(look_up(client, reply, reply_length, &epoch) == CONIKS_CLIENT_E_UNKNOWN_EPOCH);
     epoch = 1;
-    CHECK(coniks_client_watch(client, NAME("alice"), (const uint8_t *)"K", 1, &epoch) == 0);
+    CHECK(watch(client, "alice", "K", &epoch) == 0);
     CHECK(coniks_client_missing(client, missing, 1) == 2 && missing[0] == 1 && missing[1] == 7);
-    CHECK(coniks_client_history(client, NAME("alice"), history, history_length, found, 1, &count) == CONIKS_CLIENT_E_ROOM);
-    CHECK(count == 0 && is_zero(found, sizeof found[0]) && coniks_client_missing(client, NULL, 0) == 2);
-    CHECK(coniks_client_history(client, NAME("alice"), history, history_length, found, 2, &count) == 0 && count == 2);
+    CHECK(go_through(client, all, &shown, 1) == CONIKS_CLIENT_E_ROOM);
+    CHECK(shown.count == 0 && is_zero(found, sizeof found[0]) && coniks_client_missing(client, NULL, 0) == 2);
+    CHECK(go_through(client, all, &shown, 2) == 0 && shown.count == 2);
     CHECK(found[0].epoch == 1 && found[1].epoch == 2 && found[0].seen == CONIKS_CLIENT_KEY_CHANGED);
     CHECK(found[0].key == history + 137 && found[1].key == history + 137 && found[1].key_length == 1);
     coniks_client_free(client);
@@ -191,10 +214,10 @@ static void try_state(void)
     static uint8_t again[ROOM], changed[ROOM];
     uint8_t watch[sizeof WATCH / 2];
     coniks_client_settings settings;
-    struct told told;
+    struct reported reported;
     coniks_client *client;
     size_t length, at, watch_length = read_digits(WATCH, watch);
-    begin_settings(&settings, &told);
+    begin_settings(&settings, &reported);
     CHECK(coniks_client_resume(&client, &settings, state, state_length) == 0);
     memset(again, 0xaa, sizeof again);
     CHECK(coniks_client_state(client, again, state_length - 1, &length) == CONIKS_CLIENT_E_ROOM);
@@ -226,16 +249,16 @@ static void try_copies(void)
 {
     static uint8_t changed[ROOM], again[ROOM];
     coniks_client_settings settings;
-    struct told told;
+    struct reported reported;
     coniks_client *client;
     size_t length, again_length, granted = 0;
     uint32_t status;
     memcpy(changed, state, WATCHED);
     length = WATCHED + read_digits(WATCH, changed + WATCHED);
     memcpy(again, changed, length);
-    begin_settings(&settings, &told);
+    begin_settings(&settings, &reported);
     do {
-        told.granted = granted++;
+        reported.granted = granted++;
         status = coniks_client_resume(&client, &settings, again, length);
         CHECK(status == (client ? 0 : CONIKS_CLIENT_E_MEMORY));
     } while (status);
@@ -250,7 +273,7 @@ static void try_marks(void)
 {
     static uint8_t marked[ROOM], again[ROOM];
     coniks_client_settings settings;
-    struct told told;
+    struct reported reported;
     coniks_client *client;
     coniks_client_head head;
     coniks_bytes32 trust;
@@ -258,7 +281,7 @@ static void try_marks(void)
     coniks_report report;
     uint64_t epoch = 9;
     size_t again_length, length = read_digits(MARKED, marked);
-    begin_settings(&settings, &told);
+    begin_settings(&settings, &reported);
     read_digits(TRUST, trust.bytes);
     settings.trust = &trust;
     settings.auditors = 2;
@@ -289,13 +312,13 @@ static void try_other_auditors(void)
 {
     static uint8_t marked[ROOM];
     coniks_client_settings settings;
-    struct told told;
+    struct reported reported;
     coniks_client *client;
     coniks_client_head head;
     coniks_bytes32 trust;
     uint64_t epoch;
     size_t length = read_digits(MARKED, marked);
-    begin_settings(&settings, &told);
+    begin_settings(&settings, &reported);
     read_digits(TRUST, trust.bytes);
     settings.trust = &trust;
     settings.auditors = 3;
@@ -311,18 +334,18 @@ static void try_other_auditors(void)
 static void try_one_auditor(void)
 {
     coniks_client_settings settings;
-    struct told told;
+    struct reported reported;
     coniks_client *client;
     coniks_client_head head;
     coniks_client_found found[2];
+    coniks_client_shown shown = {found, 0, 0};
     coniks_bytes32 trust;
-    size_t count;
-    begin_settings(&settings, &told);
+    begin_settings(&settings, &reported);
     read_digits(TRUST, trust.bytes);
     settings.trust = &trust;
     settings.auditors = 2;
     CHECK(coniks_client_resume(&client, &settings, state, state_length) == 0);
-    CHECK(coniks_client_history(client, NAME("alice"), history, history_length, found, 2, &count) == 0 && count == 2);
+    CHECK(go_through(client, client_slice_of(history, history_length), &shown, 2) == 0 && shown.count == 2);
     CHECK(coniks_client_latest(client, &head) == 0 && coniks_client_cover(client, &head) == CONIKS_CLIENT_EQUAL);
     CHECK(coniks_client_count(client) == 2);
     coniks_client_free(client);
@@ -331,10 +354,12 @@ static void try_one_auditor(void)
 static void try_lengths(void)
 {
     static uint8_t other[ROOM];
-    struct told told;
-    coniks_client *client = fed(&told);
+    struct reported reported;
+    coniks_client *client = fed(&reported);
     coniks_client_found found[2];
-    size_t size, count;
+    coniks_client_shown shown = {found, 0, 0};
+    coniks_client_steps steps = {NULL, 0, 7};
+    size_t size;
     for (size = 0; size < reply_length; size++)
         CHECK(look_up(client, reply, size, NULL) != 0);
     CHECK(look_up(client, NULL, 0, NULL) == CONIKS_CLIENT_E_NO_REPLY);
@@ -347,12 +372,13 @@ static void try_lengths(void)
     CHECK(look_up(client, other, reply_length, NULL) == CONIKS_E_CUT_IN_KEY);
     memcpy(other, history, history_length);
     memset(other + 133, 0xff, 4);
-    CHECK(coniks_client_history(client, NAME("alice"), other, history_length, found, 2, &count) == CONIKS_CLIENT_E_CUT_IN_STEP);
-    CHECK(coniks_client_history(client, NAME("alice"), NULL, 0, found, 2, &count) == CONIKS_CLIENT_E_NO_HISTORY);
-    CHECK(coniks_client_catch_up(client, other, 208, NULL, &count, NULL) == CONIKS_CLIENT_E_CATCH_UP_LENGTH && count == 0);
-    CHECK(coniks_client_catch_up(client, NULL, 0, NULL, &count, NULL) == 0 && count == 0);
+    CHECK(go_through(client, client_slice_of(other, history_length), &shown, 2) == CONIKS_CLIENT_E_CUT_IN_STEP);
+    CHECK(go_through(client, client_slice_of(NULL, 0), &shown, 2) == CONIKS_CLIENT_E_NO_HISTORY);
+    CHECK(coniks_client_catch_up(client, other, 208, &steps, NULL) == CONIKS_CLIENT_E_CATCH_UP_LENGTH && steps.count == 0);
+    steps.count = 7;
+    CHECK(coniks_client_catch_up(client, NULL, 0, &steps, NULL) == 0 && steps.count == 0);
     CHECK(coniks_client_feed(client, NULL, 0, NULL, NULL) == CONIKS_E_ENTRY_LENGTH);
-    CHECK(told.largest < 1 << 14);
+    CHECK(reported.largest < 1 << 14);
     coniks_client_free(client);
 }
 
@@ -361,17 +387,17 @@ static void try_wrong_states(void)
 {
     static uint8_t other[ROOM];
     coniks_client_settings settings;
-    struct told told;
+    struct reported reported;
     coniks_client *client;
     size_t i, length;
     memcpy(other, state, 33);
-    begin_settings(&settings, &told);
+    begin_settings(&settings, &reported);
     for (i = 0; i < sizeof NO_STATES / sizeof NO_STATES[0]; i++) {
         length = 33 + read_digits(NO_STATES[i][0], other + 33);
         length += read_digits(NO_STATES[i][1], other + length);
         CHECK(coniks_client_resume(&client, &settings, other, length) == CONIKS_CLIENT_E_STATE_FORM && client == NULL);
     }
-    CHECK(told.largest < 1 << 14);
+    CHECK(reported.largest < 1 << 14);
 }
 
 /* Only 1 is the result of a scheme that accepts. */
@@ -379,56 +405,56 @@ static void try_schemes(void)
 {
     static const int results[] = {0, 2, -1, 256, 1 << 16, -2147483647};
     coniks_client_settings settings;
-    struct told told;
+    struct reported reported;
     coniks_client *client;
     coniks_client_evidence evidence;
     uint64_t epoch = 2;
     size_t i;
     for (i = 0; i < sizeof results / sizeof results[0]; i++) {
-        begin_settings(&settings, &told);
+        begin_settings(&settings, &reported);
         settings.signatures.verify = verify;
-        settings.signatures.context = &told;
+        settings.signatures.context = &reported;
         settings.indices.index = find;
-        settings.indices.context = &told;
+        settings.indices.context = &reported;
         CHECK(coniks_client_new(&client, &settings) == 0);
-        told.result = results[i];
+        reported.result = results[i];
         CHECK(coniks_client_feed(client, state + 37, CONIKS_ENTRY_BYTES, NULL, NULL) == CONIKS_E_SIGNATURE);
         CHECK(coniks_client_evidence_of(client, state + 37, CONIKS_ENTRY_BYTES, &evidence) == CONIKS_E_SIGNATURE);
         CHECK(coniks_client_count(client) == 0 && is_zero(&evidence, sizeof evidence));
-        told.result = 1;
+        reported.result = 1;
         CHECK(coniks_client_feed(client, state + 37, CONIKS_ENTRY_BYTES, NULL, NULL) == 0);
         CHECK(coniks_client_feed(client, state + 255, CONIKS_ENTRY_BYTES, NULL, NULL) == 0);
         CHECK(coniks_client_evidence_of(client, state + 255, CONIKS_ENTRY_BYTES, &evidence) == CONIKS_NO_EVIDENCE);
         CHECK(look_up(client, reply, reply_length, &epoch) == CONIKS_E_ROOT_MISMATCH);
-        told.result = results[i];
+        reported.result = results[i];
         CHECK(look_up(client, reply, reply_length, &epoch) == CONIKS_CLIENT_E_VRF_PROOF);
         coniks_client_free(client);
     }
 }
 
-/* A scheme, which takes a key's place, is given the parts of what it verifies. An entry that is kept is not verified once more. */
+/* A scheme, which takes a key's place, is given the parts of what it verifies. An entry that is stored is not verified once more. */
 static void try_given(void)
 {
     coniks_client_settings settings;
-    struct told told;
+    struct reported reported;
     coniks_client *client;
-    begin_settings(&settings, &told);
+    begin_settings(&settings, &reported);
     settings.signatures.verify = verify;
-    settings.signatures.context = &told;
+    settings.signatures.context = &reported;
     settings.indices.index = find;
-    settings.indices.context = &told;
+    settings.indices.context = &reported;
     settings.signing_key = NULL;
     settings.vrf_key = NULL;
-    told.result = 1;
+    reported.result = 1;
     CHECK(coniks_client_new(&client, &settings) == 0);
     CHECK(coniks_client_feed(client, state + 37, CONIKS_ENTRY_BYTES, NULL, NULL) == 0);
-    CHECK(memcmp(told.entry, state + 37, sizeof told.entry) == 0);
+    CHECK(memcmp(reported.entry, state + 37, sizeof reported.entry) == 0);
     CHECK(coniks_client_feed(client, state + 255, CONIKS_ENTRY_BYTES, NULL, NULL) == 0);
-    CHECK(memcmp(told.entry, state + 255, sizeof told.entry) == 0);
+    CHECK(memcmp(reported.entry, state + 255, sizeof reported.entry) == 0);
     CHECK(coniks_client_feed(client, state + 255, CONIKS_ENTRY_BYTES + 1, NULL, NULL) == CONIKS_E_ENTRY_LENGTH);
-    CHECK(look_up(client, reply, reply_length, NULL) == CONIKS_E_ROOT_MISMATCH && told.verified == 2);
-    CHECK(told.name.length == 5 && memcmp(told.name.bytes, "alice", 5) == 0);
-    CHECK(told.proof.length == VRF_PROOF_BYTES && memcmp(told.proof.bytes, reply + 212, VRF_PROOF_BYTES) == 0);
+    CHECK(look_up(client, reply, reply_length, NULL) == CONIKS_E_ROOT_MISMATCH && reported.verified == 2);
+    CHECK(reported.proof.name_length == 5 && memcmp(reported.proof.name, "alice", 5) == 0);
+    CHECK(reported.proof.proof_length == VRF_PROOF_BYTES && memcmp(reported.proof.proof, reply + 212, VRF_PROOF_BYTES) == 0);
     coniks_client_free(client);
 }
 
@@ -449,24 +475,24 @@ static void make(uint64_t epoch, const coniks_client_head *before, uint8_t *entr
 }
 
 /* A client to which each signature is good. */
-static coniks_client *credulous(coniks_client_settings *settings, struct told *told)
+static coniks_client *credulous(coniks_client_settings *settings, struct reported *reported)
 {
     coniks_client *client;
-    begin_settings(settings, told);
+    begin_settings(settings, reported);
     settings->signatures.verify = verify;
-    settings->signatures.context = told;
-    told->result = 1;
+    settings->signatures.context = reported;
+    reported->result = 1;
     CHECK(coniks_client_new(&client, settings) == 0);
     return client;
 }
 
 /* Feeds the entry of an epoch after the latest one, at the end of the epoch. */
-static void feed_next(coniks_client *client, struct told *told, uint64_t epoch)
+static void feed_next(coniks_client *client, struct reported *reported, uint64_t epoch)
 {
     uint8_t entry[CONIKS_ENTRY_BYTES];
     coniks_client_head head;
     CHECK(coniks_client_latest(client, &head) == 0 || epoch == 1);
-    told->now = START + epoch * PERIOD;
+    reported->now = START + epoch * PERIOD;
     make(epoch, &head, entry);
     CHECK(coniks_client_feed(client, entry, sizeof entry, NULL, NULL) == 0);
 }
@@ -477,18 +503,18 @@ static void try_evidence(void)
     coniks_client_settings settings;
     coniks_client_refusal why;
     coniks_client_found found;
-    struct told told;
-    coniks_client *client = credulous(&settings, &told);
+    struct reported reported;
+    coniks_client *client = credulous(&settings, &reported);
     coniks_client_head before = {0};
-    uint64_t unknown = 9;
+    const uint64_t unknown = 9;
+    const coniks_asking asking = asked(other, sizeof other, &unknown);
     make(3, &before, first);
     make(2, &before, other + 1);
     CHECK(coniks_client_feed(client, first, sizeof first, NULL, &why) == 0 && is_zero(&why, sizeof why));
     CHECK(coniks_client_feed(client, other + 1, sizeof first, NULL, &why) == CONIKS_CLIENT_E_EQUIVOCATION);
     CHECK(why.status == CONIKS_E_NOT_LATER && why.evidence.kind == CONIKS_OVERLAP);
     CHECK(memcmp(why.evidence.mine, first, sizeof first) == 0 && memcmp(why.evidence.other, other + 1, sizeof first) == 0);
-    CHECK(coniks_client_lookup(client, NAME("alice"), other, sizeof other, &unknown, &found, &why) ==
-          CONIKS_CLIENT_E_EQUIVOCATION);
+    CHECK(coniks_client_lookup(client, &asking, &found, &why) == CONIKS_CLIENT_E_EQUIVOCATION);
     CHECK(why.status == 0 && why.evidence.kind == CONIKS_OVERLAP && is_zero(&found, sizeof found));
     CHECK(memcmp(why.evidence.mine, first, sizeof first) == 0 && memcmp(why.evidence.other, other + 1, sizeof first) == 0);
     before.epoch = 3;
@@ -502,21 +528,23 @@ static void try_evidence(void)
 static void try_many_heads(void)
 {
     coniks_client_head heads[65];
+    coniks_client_vouching vouching = {state + 255, CONIKS_ENTRY_BYTES, heads, 65, 1};
     coniks_client_settings settings;
-    struct told told;
-    coniks_client *client = fed(&told);
+    struct reported reported;
+    coniks_client *client = fed(&reported);
     size_t i;
     for (i = 0; i < 65; i++)
         CHECK(coniks_client_latest(client, &heads[i]) == 0);
     coniks_client_free(client);
-    begin_settings(&settings, &told);
-    CHECK(coniks_client_vouched(&client, &settings, state + 255, CONIKS_ENTRY_BYTES, heads, 65, 1, NULL) ==
-          CONIKS_CLIENT_E_MANY_HEADS);
+    begin_settings(&settings, &reported);
+    CHECK(coniks_client_vouched(&client, &settings, &vouching, NULL) == CONIKS_CLIENT_E_MANY_HEADS);
     CHECK(client == NULL);
-    CHECK(coniks_client_vouched(&client, &settings, state + 255, CONIKS_ENTRY_BYTES, heads, 64, 65, NULL) ==
-          CONIKS_CLIENT_E_NOT_VOUCHED);
+    vouching.head_count = 64;
+    vouching.least = 65;
+    CHECK(coniks_client_vouched(&client, &settings, &vouching, NULL) == CONIKS_CLIENT_E_NOT_VOUCHED);
     CHECK(client == NULL);
-    CHECK(coniks_client_vouched(&client, &settings, state + 255, CONIKS_ENTRY_BYTES, heads, 64, 64, NULL) == 0);
+    vouching.least = 64;
+    CHECK(coniks_client_vouched(&client, &settings, &vouching, NULL) == 0);
     CHECK(coniks_client_count(client) == 1);
     coniks_client_free(client);
 }
@@ -524,8 +552,8 @@ static void try_many_heads(void)
 /* A head of another chain drops nothing. */
 static void try_covers(void)
 {
-    struct told told;
-    coniks_client *client = fed(&told);
+    struct reported reported;
+    coniks_client *client = fed(&reported);
     coniks_client_head head;
     CHECK(coniks_client_latest(client, &head) == 0 && head.epoch == 2);
     head.link.bytes[0] ^= 1;
@@ -536,27 +564,30 @@ static void try_covers(void)
 }
 
 /* The age of epoch 2 if the first epoch begins at `start`. */
-static int64_t age_at(coniks_client *client, struct told *told, uint64_t start, uint64_t now)
+static int64_t age_at(coniks_client *client, struct reported *reported, uint64_t start, uint64_t now)
 {
     const uint64_t epoch = 2;
+    const coniks_asking asking = asked(reply, reply_length, &epoch);
     coniks_client_found found;
-    client->policy.clock.start = start;
-    told->now = now;
-    CHECK(coniks_client_lookup(client, NAME("alice"), reply, reply_length, &epoch, &found, NULL) == 0 && found.has_age);
+    client->core.rules.clock.start = start;
+    reported->now = now;
+    CHECK(coniks_client_lookup(client, &asking, &found, NULL) == 0 && found.has_age);
     return found.age;
 }
 
 static void try_ages(void)
 {
     const uint64_t half = (uint64_t)INT64_MAX;
-    struct told told;
-    coniks_client *client = fed(&told);
-    CHECK(age_at(client, &told, 0, PERIOD) == 0 && age_at(client, &told, 0, PERIOD - 1) == -1);
-    CHECK(age_at(client, &told, 0, half + PERIOD - 1) == INT64_MAX - 1);
-    CHECK(age_at(client, &told, 0, half + PERIOD + 1) == INT64_MAX && age_at(client, &told, 0, UINT64_MAX) == INT64_MAX);
-    CHECK(age_at(client, &told, half - PERIOD, 0) == -INT64_MAX && age_at(client, &told, half - PERIOD + 2, 0) == INT64_MIN);
-    CHECK(age_at(client, &told, UINT64_MAX - PERIOD, UINT64_MAX) == 0);
-    CHECK(age_at(client, &told, UINT64_MAX - PERIOD + 1, UINT64_MAX) == INT64_MIN);
+    struct reported reported;
+    coniks_client *client = fed(&reported);
+    CHECK(age_at(client, &reported, 0, PERIOD) == 0 && age_at(client, &reported, 0, PERIOD - 1) == -1);
+    CHECK(age_at(client, &reported, 0, half + PERIOD - 1) == INT64_MAX - 1);
+    CHECK(age_at(client, &reported, 0, half + PERIOD + 1) == INT64_MAX &&
+          age_at(client, &reported, 0, UINT64_MAX) == INT64_MAX);
+    CHECK(age_at(client, &reported, half - PERIOD, 0) == -INT64_MAX &&
+          age_at(client, &reported, half - PERIOD + 2, 0) == INT64_MIN);
+    CHECK(age_at(client, &reported, UINT64_MAX - PERIOD, UINT64_MAX) == 0);
+    CHECK(age_at(client, &reported, UINT64_MAX - PERIOD + 1, UINT64_MAX) == INT64_MIN);
     coniks_client_free(client);
 }
 
@@ -564,19 +595,22 @@ static void try_misuse(void)
 {
     static const uint8_t long_name[256] = {'a'};
     const uint8_t *k = (const uint8_t *)"k", *new_key = (const uint8_t *)"K";
-    struct told told;
-    coniks_client *client = fed(&told);
+    const coniks_watch no_name = {1, NULL, 0, 0, k, 1}, neither = {1, NULL, 0, 0, k, 0};
+    const coniks_watch named_long = {1, long_name, sizeof long_name, 0, k, 1};
+    const coniks_watch empty = {1, NAME("alice"), 0, k, 0}, nowhere = {1, NAME("alice"), 0, NULL, 1};
+    struct reported reported;
+    coniks_client *client = fed(&reported);
     uint64_t second = 2;
     CHECK(coniks_client_expect(client, k, 1, 9) == CONIKS_CLIENT_E_NOT_WATCHING);
     CHECK(coniks_client_expect(client, k, 0, 9) == CONIKS_CLIENT_E_NOT_WATCHING);
-    CHECK(coniks_client_watch(client, NULL, 0, k, 1, NULL) == CONIKS_CLIENT_E_NAME);
-    CHECK(coniks_client_watch(client, NULL, 0, k, 0, NULL) == CONIKS_CLIENT_E_NAME);
-    CHECK(coniks_client_watch(client, long_name, sizeof long_name, k, 1, NULL) == CONIKS_CLIENT_E_NAME);
-    CHECK(coniks_client_watch(client, NAME("alice"), k, 0, NULL) == CONIKS_CLIENT_E_EXPECTED_KEY);
-    CHECK(coniks_client_watch(client, NAME("alice"), NULL, 1, NULL) == CONIKS_CLIENT_E_EXPECTED_KEY);
-    CHECK(coniks_client_watch(client, NAME("alice"), k, 1, NULL) == 0);
-    CHECK(coniks_client_watch(client, NAME("alice"), k, 1, &second) == 0);
-    CHECK(coniks_client_watch(client, NAME("bob"), k, 1, NULL) == CONIKS_CLIENT_E_OTHER_WATCH);
+    CHECK(coniks_client_watch(client, &no_name, 0) == CONIKS_CLIENT_E_NAME);
+    CHECK(coniks_client_watch(client, &neither, 0) == CONIKS_CLIENT_E_NAME);
+    CHECK(coniks_client_watch(client, &named_long, 0) == CONIKS_CLIENT_E_NAME);
+    CHECK(coniks_client_watch(client, &empty, 0) == CONIKS_CLIENT_E_EXPECTED_KEY);
+    CHECK(coniks_client_watch(client, &nowhere, 0) == CONIKS_CLIENT_E_EXPECTED_KEY);
+    CHECK(watch(client, "alice", "k", NULL) == 0);
+    CHECK(watch(client, "alice", "k", &second) == 0);
+    CHECK(watch(client, "bob", "k", NULL) == CONIKS_CLIENT_E_OTHER_WATCH);
     CHECK(coniks_client_expect(client, k, 1, 9) == CONIKS_CLIENT_E_SAME_KEY);
     CHECK(coniks_client_expect(client, new_key, 1, 2) == CONIKS_CLIENT_E_NOT_LATER);
     CHECK(coniks_client_expect(client, new_key, 1, 3) == 0);
@@ -588,15 +622,14 @@ static void try_misuse(void)
 static void try_watch_again(void)
 {
     static uint8_t before[ROOM], after[ROOM];
-    const uint8_t *k = (const uint8_t *)"k";
-    struct told told;
-    coniks_client *client = fed(&told);
+    struct reported reported;
+    coniks_client *client = fed(&reported);
     size_t length, length_after, live;
-    CHECK(coniks_client_watch(client, NAME("alice"), k, 1, NULL) == 0);
+    CHECK(watch(client, "alice", "k", NULL) == 0);
     CHECK(coniks_client_expect(client, reply, LONG_KEY, 3) == 0);
     CHECK(coniks_client_state(client, before, sizeof before, &length) == 0);
-    live = told.live;
-    CHECK(coniks_client_watch(client, NAME("alice"), k, 1, NULL) == 0 && told.live == live);
+    live = reported.live;
+    CHECK(watch(client, "alice", "k", NULL) == 0 && reported.live == live);
     CHECK(coniks_client_state(client, after, sizeof after, &length_after) == 0);
     CHECK(length_after == length && memcmp(after, before, length) == 0);
     coniks_client_free(client);
@@ -607,51 +640,51 @@ static void try_dropped_keys(void)
 {
     const uint8_t *k = (const uint8_t *)"k";
     coniks_client_settings settings;
-    struct told told;
-    coniks_client *client = credulous(&settings, &told);
+    struct reported reported;
+    coniks_client *client = credulous(&settings, &reported);
     coniks_client_head head;
     size_t live;
-    client->policy.promise.is_limited = 1;
-    CHECK(coniks_client_watch(client, NAME("alice"), k, 1, NULL) == 0);
-    feed_next(client, &told, 1);
+    client->core.rules.promise.is_limited = 1;
+    CHECK(watch(client, "alice", "k", NULL) == 0);
+    feed_next(client, &reported, 1);
     CHECK(coniks_client_expect(client, reply, LONG_KEY, 2) == 0);
-    feed_next(client, &told, 2);
+    feed_next(client, &reported, 2);
     CHECK(coniks_client_expect(client, k, 1, 3) == 0);
-    feed_next(client, &told, 3);
-    live = told.live;
+    feed_next(client, &reported, 3);
+    live = reported.live;
     CHECK(coniks_client_latest(client, &head) == 0 && coniks_client_cover(client, &head) == CONIKS_CLIENT_EQUAL);
-    CHECK(coniks_client_count(client) == 1 && told.live == live - LONG_KEY - 1);
+    CHECK(coniks_client_count(client) == 1 && reported.live == live - LONG_KEY - 1);
     coniks_client_free(client);
-    CHECK(told.live == 0);
+    CHECK(reported.live == 0);
 }
 
 /* Without a key of the VRF, and with a digest alone, nothing can be looked up. */
 static void try_no_vrf(void)
 {
     coniks_client_settings settings;
-    struct told told;
+    struct reported reported;
     coniks_client *client;
     coniks_bytes32 digest;
-    begin_settings(&settings, &told);
+    begin_settings(&settings, &reported);
     memcpy(digest.bytes, state + 1, 32);
     settings.policy = NULL;
     settings.policy_digest = &digest;
     settings.vrf_key = NULL;
     CHECK(coniks_client_new(&client, &settings) == 0);
-    CHECK(coniks_client_catch_up(client, state + 37, CONIKS_ENTRY_BYTES, NULL, NULL, NULL) == 0);
+    CHECK(coniks_client_catch_up(client, state + 37, CONIKS_ENTRY_BYTES, NULL, NULL) == 0);
     CHECK(coniks_client_feed(client, state + 255, CONIKS_ENTRY_BYTES, NULL, NULL) == 0);
     CHECK(look_up(client, reply, reply_length, NULL) == CONIKS_CLIENT_E_VRF_PROOF);
     coniks_client_free(client);
 }
 
 /* The example's policy, with proofs that are kept for a number of seconds, at a time. */
-static size_t lost_at(coniks_client *client, struct told *told, uint64_t proofs_kept, uint64_t now)
+static size_t lost_at(coniks_client *client, struct reported *reported, uint64_t proofs_kept, uint64_t now)
 {
     uint64_t epochs[2] = {7, 7};
     size_t count;
-    client->policy.promise.is_limited = 1;
-    client->policy.promise.seconds = proofs_kept;
-    told->now = now;
+    client->core.rules.promise.is_limited = 1;
+    client->core.rules.promise.seconds = proofs_kept;
+    reported->now = now;
     count = coniks_client_lost(client, epochs, 2);
     CHECK(epochs[0] == (count ? 1 : 7) && epochs[1] == 7 && coniks_client_missing(client, NULL, 0) == 2);
     return count;
@@ -661,17 +694,17 @@ static void try_lost(void)
 {
     const uint64_t second = START + PERIOD;
     uint64_t epoch = 1, room = 7;
-    struct told told;
-    coniks_client *client = fed(&told);
-    CHECK(coniks_client_watch(client, NAME("alice"), (const uint8_t *)"k", 1, &epoch) == 0);
+    struct reported reported;
+    coniks_client *client = fed(&reported);
+    CHECK(watch(client, "alice", "k", &epoch) == 0);
     CHECK(coniks_client_lost(client, NULL, 0) == 0);
-    CHECK(lost_at(client, &told, 9, second + 8) == 0 && lost_at(client, &told, 9, second + 9) == 1);
-    CHECK(lost_at(client, &told, 0, second - 1) == 0 && lost_at(client, &told, 0, second) == 1);
-    CHECK(lost_at(client, &told, UINT64_MAX - second, UINT64_MAX - 1) == 0);
-    CHECK(lost_at(client, &told, UINT64_MAX - second, UINT64_MAX) == 1);
-    CHECK(lost_at(client, &told, UINT64_MAX - second + 1, UINT64_MAX) == 0);
-    CHECK(lost_at(client, &told, UINT64_MAX, UINT64_MAX) == 0 && lost_at(client, &told, UINT64_MAX, 0) == 0);
-    CHECK(lost_at(client, &told, 9, second + 9) == 1 && coniks_client_lost(client, &room, 0) == 1 && room == 7);
+    CHECK(lost_at(client, &reported, 9, second + 8) == 0 && lost_at(client, &reported, 9, second + 9) == 1);
+    CHECK(lost_at(client, &reported, 0, second - 1) == 0 && lost_at(client, &reported, 0, second) == 1);
+    CHECK(lost_at(client, &reported, UINT64_MAX - second, UINT64_MAX - 1) == 0);
+    CHECK(lost_at(client, &reported, UINT64_MAX - second, UINT64_MAX) == 1);
+    CHECK(lost_at(client, &reported, UINT64_MAX - second + 1, UINT64_MAX) == 0);
+    CHECK(lost_at(client, &reported, UINT64_MAX, UINT64_MAX) == 0 && lost_at(client, &reported, UINT64_MAX, 0) == 0);
+    CHECK(lost_at(client, &reported, 9, second + 9) == 1 && coniks_client_lost(client, &room, 0) == 1 && room == 7);
     coniks_client_free(client);
 }
 
@@ -680,15 +713,15 @@ static void try_many_alarms(void)
 {
     static uint8_t saved[ROOM];
     coniks_client_settings settings;
-    struct told told;
-    coniks_client *client = credulous(&settings, &told);
+    struct reported reported;
+    coniks_client *client = credulous(&settings, &reported);
     coniks_client_head head;
     uint64_t epoch;
     size_t length;
-    client->policy.promise.is_limited = 1;
-    CHECK(coniks_client_watch(client, NAME("alice"), NULL, 0, NULL) == 0);
+    client->core.rules.promise.is_limited = 1;
+    CHECK(watch(client, "alice", NULL, NULL) == 0);
     for (epoch = 1; epoch <= 100; epoch++) {
-        feed_next(client, &told, epoch);
+        feed_next(client, &reported, epoch);
         CHECK(coniks_client_latest(client, &head) == 0 && coniks_client_cover(client, &head) == CONIKS_CLIENT_EQUAL);
         CHECK(coniks_client_count(client) == 1 && coniks_client_alarms(client, NULL, 0) == epoch - 1);
     }
@@ -703,47 +736,48 @@ static void try_lost_room(void)
 {
     uint64_t epoch, epochs[2] = {7, 7};
     coniks_client_settings settings;
-    struct told told;
-    coniks_client *client = credulous(&settings, &told);
-    client->policy.promise.is_limited = 1;
-    CHECK(coniks_client_watch(client, NAME("alice"), NULL, 0, NULL) == 0);
+    struct reported reported;
+    coniks_client *client = credulous(&settings, &reported);
+    client->core.rules.promise.is_limited = 1;
+    CHECK(watch(client, "alice", NULL, NULL) == 0);
     for (epoch = 1; epoch <= 3; epoch++)
-        feed_next(client, &told, epoch);
+        feed_next(client, &reported, epoch);
     CHECK(coniks_client_lost(client, epochs, 1) == 2 && epochs[0] == 1 && epochs[1] == 7);
     coniks_client_free(client);
 }
 
 static void try_settings(void)
 {
+    const coniks_client_vouching nobody = {NULL, 0, NULL, 0, 0};
     coniks_client_settings settings;
     coniks_client_head head;
-    struct told told;
+    struct reported reported;
     coniks_client *client;
     coniks_bytes32 digest;
     uint64_t first = 1;
-    begin_settings(&settings, &told);
+    begin_settings(&settings, &reported);
     settings.policy_length--;
     CHECK(coniks_client_new(&client, &settings) == CONIKS_CLIENT_E_POLICY_FORM && client == NULL);
     settings.policy = NULL;
     CHECK(coniks_client_new(&client, &settings) == CONIKS_CLIENT_E_POLICY_FORM && client == NULL);
     memcpy(digest.bytes, state + 1, 32);
     settings.policy_digest = &digest;
-    told.now = UINT64_MAX;
+    reported.now = UINT64_MAX;
     CHECK(coniks_client_new(&client, &settings) == 0);
     CHECK(coniks_client_latest(client, &head) == CONIKS_E_NO_ENTRY && is_zero(&head, sizeof head));
     CHECK(coniks_client_feed(client, state + 37, CONIKS_ENTRY_BYTES, NULL, NULL) == 0);
     CHECK(coniks_client_feed(client, state + 255, CONIKS_ENTRY_BYTES, NULL, NULL) == 0);
     CHECK(look_up(client, reply, reply_length, NULL) == 0);
     /* A digest promises proofs for ever. */
-    CHECK(coniks_client_watch(client, NAME("alice"), NULL, 0, &first) == 0);
+    CHECK(watch(client, "alice", NULL, &first) == 0);
     CHECK(coniks_client_missing(client, NULL, 0) == 2 && coniks_client_lost(client, NULL, 0) == 0);
     coniks_client_free(client);
-    begin_settings(&settings, &told);
+    begin_settings(&settings, &reported);
     settings.signing_key = NULL;
     CHECK(coniks_client_new(&client, &settings) == CONIKS_CLIENT_E_SIGNING_KEY && client == NULL);
-    CHECK(coniks_client_vouched(&client, &settings, NULL, 0, NULL, 0, 0, NULL) == CONIKS_CLIENT_E_SIGNING_KEY);
+    CHECK(coniks_client_vouched(&client, &settings, &nobody, NULL) == CONIKS_CLIENT_E_SIGNING_KEY);
     settings.signing_key = &signing_key;
-    CHECK(coniks_client_vouched(&client, &settings, NULL, 0, NULL, 0, 0, NULL) == CONIKS_CLIENT_E_LEAST && client == NULL);
+    CHECK(coniks_client_vouched(&client, &settings, &nobody, NULL) == CONIKS_CLIENT_E_LEAST && client == NULL);
     settings.vrf_key = NULL;
     CHECK(coniks_client_new(&client, &settings) == CONIKS_CLIENT_E_POLICY_KEYS && client == NULL);
     coniks_client_free(NULL);
@@ -761,8 +795,9 @@ static struct slice changed_policy(const char *part, const char *other)
 
 static uint32_t read_changed(const char *part, const char *other)
 {
-    struct policy policy;
-    return client_read_policy(changed_policy(part, other), &policy);
+    struct keys keys;
+    coniks_rules rules;
+    return client_read_policy(changed_policy(part, other), &keys, &rules);
 }
 
 /* What a client returns that is made with another policy. */
@@ -778,14 +813,14 @@ static void try_other_keys(void)
 {
     static const char *zeros = "0000000000000000000000000000000000000000000000000000000000000000";
     coniks_client_settings settings;
-    struct told told;
+    struct reported reported;
     coniks_client *client;
     coniks_bytes32 third;
     read_digits(SIGNED[2][0], third.bytes);
-    begin_settings(&settings, &told);
+    begin_settings(&settings, &reported);
     settings.signing_key = &third;
     CHECK(coniks_client_new(&client, &settings) == CONIKS_CLIENT_E_POLICY_KEYS);
-    begin_settings(&settings, &told);
+    begin_settings(&settings, &reported);
     settings.vrf_key = &third;
     CHECK(coniks_client_new(&client, &settings) == CONIKS_CLIENT_E_POLICY_KEYS);
     settings.vrf_key = NULL;
@@ -798,14 +833,14 @@ static void try_other_keys(void)
 static void try_long_periods(void)
 {
     coniks_client_settings settings;
-    struct told told;
+    struct reported reported;
     coniks_client *client;
-    begin_settings(&settings, &told);
+    begin_settings(&settings, &reported);
     CHECK(made_with(&client, &settings, changed_policy("period 3600", "period 9223372036854775808")) == 0);
-    CHECK(client && client->policy.clock.max_age == UINT64_MAX);
+    CHECK(client && client->core.rules.clock.max_age == UINT64_MAX);
     coniks_client_free(client);
     CHECK(made_with(&client, &settings, changed_policy("period 3600", "period 9223372036854775807")) == 0);
-    CHECK(client && client->policy.clock.max_age == UINT64_MAX - 1);
+    CHECK(client && client->core.rules.clock.max_age == UINT64_MAX - 1);
     coniks_client_free(client);
 }
 

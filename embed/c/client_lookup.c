@@ -85,16 +85,14 @@ static int refuse(uint32_t status)
 }
 
 /* Feeds the catch-up, looks the name up and prints its key. */
-static int look_up(coniks_client *client, const struct file *catch_up, const char *name, const struct file *reply,
-                   const uint64_t *epoch)
+static int look_up(coniks_client *client, const struct file *catch_up, const coniks_asking *asking)
 {
     coniks_client_found found;
     size_t i;
-    uint32_t status = coniks_client_catch_up(client, catch_up->bytes, catch_up->length, NULL, NULL, NULL);
+    uint32_t status = coniks_client_catch_up(client, catch_up->bytes, catch_up->length, NULL, NULL);
     if (status)
         return refuse(status);
-    status =
-        coniks_client_lookup(client, (const uint8_t *)name, strlen(name), reply->bytes, reply->length, epoch, &found, NULL);
+    status = coniks_client_lookup(client, asking, &found, NULL);
     if (status)
         return refuse(status);
     if (found.shows == CONIKS_CLIENT_NO_KEY) {
@@ -122,6 +120,8 @@ int main(int argc, char **argv)
         return 2;
     }
     if (read_file(argv[3], &policy) && read_file(argv[4], &catch_up) && read_file(argv[6], &reply)) {
+        const coniks_asking asking = {
+            (const uint8_t *)argv[5], strlen(argv[5]), reply.bytes, reply.length, argc == 8, epoch, 0};
         uint32_t status;
         coniks_client_begin_settings(&settings);
         settings.signing_key = &signing_key;
@@ -129,7 +129,7 @@ int main(int argc, char **argv)
         settings.policy = policy.bytes;
         settings.policy_length = policy.length;
         status = coniks_client_new(&client, &settings);
-        is_refused = status ? refuse(status) : look_up(client, &catch_up, argv[5], &reply, argc == 8 ? &epoch : NULL);
+        is_refused = status ? refuse(status) : look_up(client, &catch_up, &asking);
         coniks_client_free(client);
     }
     free(policy.bytes);

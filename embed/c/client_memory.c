@@ -1,12 +1,14 @@
-/* The memory of a client: arrays that grow before a call of the core, one block with copies of its name and its keys, and kept numbers. */
+/* The memory of a client: the arrays of its core, which grow before a call, one block with copies of its name and its keys, and numbers. */
 #include <string.h>
 
 #include "client_parts.h"
 
-void *client_allocate(const coniks_client *client, size_t size)
+void *client_allocate(const coniks_client *client, size_t count, size_t size)
 {
     const coniks_client_memory *memory = &client->settings.memory;
-    return memory->allocate(memory->context, size ? size : 1);
+    if (count > SIZE_MAX / size)
+        return NULL;
+    return memory->allocate(memory->context, count ? count * size : 1);
 }
 
 void client_release(const coniks_client *client, void *block)
@@ -16,41 +18,73 @@ void client_release(const coniks_client *client, void *block)
         memory->release(memory->context, block);
 }
 
-uint32_t client_reserve(const coniks_client *client, struct array *array, size_t room, size_t size)
+/* Moves the elements of an array to a block with more room. Returns NULL if there is no memory, and changes nothing then. */
+static void *moved(const coniks_client *client, void *items, size_t count, size_t room, size_t size)
 {
-    void *items;
-    if (room <= array->room)
+    void *block = client_allocate(client, room, size);
+    if (block == NULL)
+        return NULL;
+    if (count)
+        memcpy(block, items, count * size);
+    client_release(client, items);
+    return block;
+}
+
+static uint32_t reserve_alarms(coniks_client *client, size_t room)
+{
+    coniks_alarms *alarms = &client->core.alarms;
+    coniks_alarm *items;
+    if (room <= alarms->room)
         return 0;
-    items = room <= SIZE_MAX / size ? client_allocate(client, room * size) : NULL;
+    items = moved(client, alarms->items, alarms->count, room, sizeof *items);
     if (items == NULL)
         return CONIKS_CLIENT_E_MEMORY;
-    if (array->count)
-        memcpy(items, array->items, array->count * size);
-    client_release(client, array->items);
-    array->items = items;
-    array->room = room;
+    alarms->items = items;
+    alarms->room = room;
     return 0;
 }
 
-/* The room for epochs doubles. There is room for the alarms first, so that a kept epoch can always be dropped. */
+/* The room for epochs doubles. There is room for the alarms first, so that a stored epoch can always be dropped. */
 uint32_t client_reserve_epochs(coniks_client *client, size_t more, size_t alarm_count)
 {
-    const struct array *kept = &client->kept;
-    size_t room = kept->room;
+    coniks_stored *stored = &client->core.stored;
+    coniks_stored_entry *items;
+    size_t room = stored->room;
     uint32_t status;
-    if (more > room - kept->count)
-        room = more > kept->count ? kept->count + more : 2 * kept->count;
-    status = client_reserve(client, &client->alarms, alarm_count + room, sizeof(coniks_alarm));
-    return status ? status : client_reserve(client, &client->kept, room, sizeof(coniks_kept));
+    if (more > room - stored->count)
+        room = more > stored->count ? stored->count + more : 2 * stored->count;
+    status = reserve_alarms(client, alarm_count + room);
+    if (status || room == stored->room)
+        return status;
+    items = moved(client, stored->items, stored->count, room, sizeof *items);
+    if (items == NULL)
+        return CONIKS_CLIENT_E_MEMORY;
+    stored->items = items;
+    stored->room = room;
+    return 0;
 }
 
-size_t client_text_length(const coniks_client *client)
+uint32_t client_reserve_changes(coniks_client *client, size_t room)
 {
-    const coniks_change *changes = client->changes.items;
-    size_t i, length = client->watch.name_length + client->watch.key_length;
-    for (i = 0; i < client->changes.count; i++)
-        length += changes[i].key_length;
-    return length;
+    coniks_changes *changes = &client->core.changes;
+    coniks_change *items;
+    if (room <= changes->room)
+        return 0;
+    items = moved(client, changes->items, changes->count, room, sizeof *items);
+    if (items == NULL)
+        return CONIKS_CLIENT_E_MEMORY;
+    changes->items = items;
+    changes->room = room;
+    return 0;
+}
+
+uint8_t *client_allocate_texts(const coniks_client *client, size_t more)
+{
+    const coniks_core *core = &client->core;
+    size_t i, length = core->watch.name_length + core->watch.key_length + more;
+    for (i = 0; i < core->changes.count; i++)
+        length += core->changes.items[i].key_length;
+    return client_allocate(client, length, 1);
 }
 
 /* Copies bytes to the end of a block. */
@@ -64,15 +98,16 @@ static void append(uint8_t **end, const uint8_t **bytes, size_t length)
 
 uint32_t client_own_texts(coniks_client *client, uint8_t *block)
 {
-    coniks_change *changes = client->changes.items;
+    coniks_watch *watch = &client->core.watch;
+    coniks_changes *changes = &client->core.changes;
     uint8_t *end = block;
     size_t i;
     if (block == NULL)
         return CONIKS_CLIENT_E_MEMORY;
-    append(&end, &client->watch.name, client->watch.name_length);
-    append(&end, &client->watch.key, client->watch.key_length);
-    for (i = 0; i < client->changes.count; i++)
-        append(&end, &changes[i].key, changes[i].key_length);
+    append(&end, &watch->name, watch->name_length);
+    append(&end, &watch->key, watch->key_length);
+    for (i = 0; i < changes->count; i++)
+        append(&end, &changes->items[i].key, changes->items[i].key_length);
     client_release(client, client->texts);
     client->texts = block;
     return 0;
@@ -102,10 +137,10 @@ void coniks_client_free(coniks_client *client)
 {
     if (client == NULL)
         return;
-    client_release(client, client->kept.items);
-    client_release(client, client->alarms.items);
-    client_release(client, client->changes.items);
-    client_release(client, client->marks.items);
+    client_release(client, client->core.stored.items);
+    client_release(client, client->core.alarms.items);
+    client_release(client, client->core.changes.items);
+    client_release(client, client->core.marks);
     client_release(client, client->texts);
     client_release(client, client);
 }

@@ -15,33 +15,18 @@ struct slice {
     size_t length;
 };
 
-/* An array that grows. The first `count` elements are in use. */
-struct array {
-    void *items;
-    size_t count, room;
-};
-
-/* What an array has, and an array that is written, as the core takes them. */
-#define ITEMS(array) (array).items, (array).count
-#define WRITTEN(array) (array).items, (array).room, &(array).count
-
-/* The policy, as far as a client needs it. `clock` has the client's limits too, but not the time. */
-struct policy {
-    coniks_bytes32 digest, signing_key, vrf_key;
-    int has_keys, has_vrf;
-    coniks_present clock;
-    coniks_promise promise;
+/* The keys of a directory. */
+struct keys {
+    coniks_bytes32 signing, vrf;
+    int has_vrf;
 };
 
 /* The client owns all that its pointers point at. What those of its settings to keys, policy and trust point at is read as it is made. */
 struct coniks_client {
     coniks_client_settings settings;
-    coniks_bytes32 signing_key, vrf_key, trust;
-    struct policy policy;
-    struct array kept, alarms, changes, marks;
-    coniks_watch watch;
+    struct keys keys;
+    coniks_core core;
     uint8_t *texts; /* the watched name, and all keys of the watch and of the changes */
-    size_t quorum;
 };
 
 /* client_ecvrf.c */
@@ -57,38 +42,38 @@ void client_hash_bytes(const uint8_t *bytes, size_t length, coniks_bytes32 *hash
 
 /* client_schemes.c */
 
-/* Takes the keys of the settings, and checks that they are those of the policy document. */
-CONIKS_NODISCARD uint32_t client_take_keys(coniks_client *client);
+/* Takes the keys of the settings, and checks that they are those of the policy document; NULL is no document. */
+CONIKS_NODISCARD uint32_t client_take_keys(coniks_client *client, const struct keys *of_policy);
 
 /* client_verdicts.c: all verdicts that the core is given are made here */
 
 /* Returns the verdict on the signature of an entry of 209 bytes, and 0 for bytes of another length. */
 CONIKS_NODISCARD uint32_t client_signature_verdict(const coniks_client *client, const uint8_t *entry, size_t length);
 /* Returns the verdict on the VRF proof of a name, with the index. */
-CONIKS_NODISCARD coniks_verdicts client_index_verdict(const coniks_client *client, struct slice name, struct slice proof);
+CONIKS_NODISCARD coniks_verdicts client_index_verdict(const coniks_client *client, const coniks_client_proof *proof);
 
 /* client_policy.c */
 
 struct slice client_slice_of(const uint8_t *bytes, size_t length);
-/* Reads a policy document. Returns 0, or CONIKS_CLIENT_E_POLICY_FORM. */
-CONIKS_NODISCARD uint32_t client_read_policy(struct slice document, struct policy *policy);
+/* Reads a policy document: its keys, digest, clock and promise. Returns 0, or CONIKS_CLIENT_E_POLICY_FORM. */
+CONIKS_NODISCARD uint32_t client_read_policy(struct slice document, struct keys *keys, coniks_rules *rules);
 
 /* client_memory.c */
 
-/* Allocates at least one byte. Returns NULL if there is no memory. */
-CONIKS_NODISCARD void *client_allocate(const coniks_client *client, size_t size);
+/* Allocates room for a number of elements of a size, and at least one byte. Returns NULL if there is no memory. */
+CONIKS_NODISCARD void *client_allocate(const coniks_client *client, size_t count, size_t size);
 /* Frees a block; NULL is none. */
 void client_release(const coniks_client *client, void *block);
-/* Makes room for a number of elements of a size. */
-CONIKS_NODISCARD uint32_t client_reserve(const coniks_client *client, struct array *array, size_t room, size_t size);
-/* Makes room for `more` kept epochs, and for `alarm_count` alarms and one of each kept epoch. */
+/* Makes room for `more` stored epochs, and for `alarm_count` alarms and one of each stored epoch. */
 CONIKS_NODISCARD uint32_t client_reserve_epochs(coniks_client *client, size_t more, size_t alarm_count);
-/* Returns how many bytes the watched name and all keys have. */
-CONIKS_NODISCARD size_t client_text_length(const coniks_client *client);
+/* Makes room for a number of changes. */
+CONIKS_NODISCARD uint32_t client_reserve_changes(coniks_client *client, size_t room);
+/* Allocates room for the watched name, all keys and more bytes. Returns NULL if there is no memory. */
+CONIKS_NODISCARD uint8_t *client_allocate_texts(const coniks_client *client, size_t more);
 /* Copies the watched name and all keys to a block that has room for them, in place of the one that the client owns. Changes nothing if the
  * block is NULL: there is no memory. */
 uint32_t client_own_texts(coniks_client *client, uint8_t *block);
-/* Returns the number in eight bytes, and the epoch of a kept entry. */
+/* Returns the number in eight bytes, and the epoch of a stored entry. */
 uint64_t client_number_of(const uint8_t *bytes);
 uint64_t client_epoch_of(const uint8_t *entry);
 /* Writes zeros; `bytes` may be NULL. */
@@ -104,7 +89,7 @@ CONIKS_NODISCARD uint32_t client_take_state(coniks_client *client, struct slice 
 /* Writes why an entry was refused, unless `to` is NULL. Returns the status. */
 uint32_t client_refused(const coniks_client *client, uint32_t status, const uint8_t *entry, const coniks_why *why,
                         coniks_client_refusal *to);
-/* Returns the clock of the policy, and the time. */
-coniks_present client_present(const coniks_client *client);
+/* Returns the time. */
+uint64_t client_time(const coniks_client *client);
 
 #endif

@@ -93,23 +93,23 @@ static int is_number(struct slice value, uint64_t *number)
     return 1;
 }
 
-static int take_vrf(struct reader *it, struct policy *policy)
+static int take_vrf(struct reader *it, struct keys *keys)
 {
     struct slice scheme;
     if (!take_value(it, "vrf ", &scheme))
         return 0;
-    policy->has_vrf = is_text(scheme, "ECVRF-EDWARDS25519-SHA512-TAI");
-    return policy->has_vrf ? take_key(it, "vrf-key ", &policy->vrf_key) : is_text(scheme, "none");
+    keys->has_vrf = is_text(scheme, "ECVRF-EDWARDS25519-SHA512-TAI");
+    return keys->has_vrf ? take_key(it, "vrf-key ", &keys->vrf) : is_text(scheme, "none");
 }
 
-static int take_clock(struct reader *it, struct policy *policy)
+static int take_clock(struct reader *it, coniks_clock *clock)
 {
     struct slice start, period;
     if (!take_value(it, "epoch-start ", &start))
         return 1;
-    policy->clock.has_clock = 1;
-    return is_number(start, &policy->clock.start) && take_value(it, "epoch-period ", &period) &&
-           is_number(period, &policy->clock.period) && policy->clock.period > 0;
+    clock->is_there = 1;
+    return is_number(start, &clock->start) && take_value(it, "epoch-period ", &period) && is_number(period, &clock->period) &&
+           clock->period > 0;
 }
 
 /* The line that promises records of owners may be absent. A client in C verifies no records. */
@@ -119,26 +119,26 @@ static int take_records(struct reader *it)
     return !take_value(it, "records ", &value) || is_text(value, "vouched");
 }
 
-static int take_kept(struct reader *it, struct policy *policy)
+static int take_promise(struct reader *it, coniks_promise *promise)
 {
     struct slice value;
     if (!take_value(it, "proofs-kept ", &value))
         return 0;
-    policy->promise.is_limited = !is_text(value, "forever");
-    return !policy->promise.is_limited || is_number(value, &policy->promise.seconds);
+    promise->is_limited = !is_text(value, "forever");
+    return !promise->is_limited || is_number(value, &promise->seconds);
 }
 
-uint32_t client_read_policy(struct slice document, struct policy *policy)
+uint32_t client_read_policy(struct slice document, struct keys *keys, coniks_rules *rules)
 {
     struct reader it;
     it.at = document.bytes;
     it.left = document.length;
-    memset(policy, 0, sizeof *policy);
+    memset(keys, 0, sizeof *keys);
+    memset(rules, 0, sizeof *rules);
     if (!take_line(&it, "policy coniks-1") || !take_origin(&it) || !take_line(&it, "signature Ed25519") ||
-        !take_key(&it, "signing-key ", &policy->signing_key) || !take_vrf(&it, policy) || !take_clock(&it, policy) ||
-        !take_line(&it, "evidence one-chain") || !take_records(&it) || !take_kept(&it, policy) || it.left)
+        !take_key(&it, "signing-key ", &keys->signing) || !take_vrf(&it, keys) || !take_clock(&it, &rules->clock) ||
+        !take_line(&it, "evidence one-chain") || !take_records(&it) || !take_promise(&it, &rules->promise) || it.left)
         return CONIKS_CLIENT_E_POLICY_FORM;
-    policy->has_keys = 1;
-    client_hash_bytes(document.bytes, document.length, &policy->digest);
+    client_hash_bytes(document.bytes, document.length, &rules->policy);
     return 0;
 }

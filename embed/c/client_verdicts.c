@@ -7,10 +7,10 @@ uint32_t client_signature_verdict(const coniks_client *client, const uint8_t *en
     return length == CONIKS_ENTRY_BYTES && scheme->verify(scheme->context, entry, entry + CONIKS_BODY_BYTES) == 1;
 }
 
-coniks_verdicts client_index_verdict(const coniks_client *client, struct slice name, struct slice proof)
+coniks_verdicts client_index_verdict(const coniks_client *client, const coniks_client_proof *proof)
 {
     const coniks_client_indices *scheme = &client->settings.indices;
     coniks_verdicts verdicts = {0};
-    verdicts.index = scheme->index(scheme->context, name.bytes, name.length, proof.bytes, proof.length, &verdicts.at) == 1;
+    verdicts.index = scheme->index(scheme->context, proof, &verdicts.at) == 1;
     return verdicts;
 }

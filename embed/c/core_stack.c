@@ -25,109 +25,134 @@ static const char *const names[] = {"nothing",     "feed",        "reply_needs",
 static uint8_t reply[REPLY], history[HISTORY], state[STATE];
 static coniks_siblings siblings;
 
-/* Makes one of the calls, on a client with one kept epoch that watches a name. */
+/* A client and its memory. */
+static coniks_core core;
+static coniks_stored_entry stored[2];
+static coniks_change changes[2];
+static coniks_alarm alarms[2];
+static uint64_t marks[HEADS];
+
+/* Makes a client with one stored epoch, whose entry is still zero bytes, and no watched name. Its quorum is one auditor. */
+static void begin(void)
+{
+    memset(stored, 0, sizeof stored);
+    memset(marks, 0, sizeof marks);
+    alarms[0] = (coniks_alarm){1, 5};
+    memset(&core, 0, sizeof core);
+    core.rules.quorum = 1;
+    core.stored = (coniks_stored){stored, 2, 1};
+    core.changes = (coniks_changes){changes, 2, 0};
+    core.alarms = (coniks_alarms){alarms, 2, 0};
+    core.marks = marks;
+    core.mark_count = HEADS;
+}
+
+/* Makes one of the calls, or none. The copy before it takes the same stack each time. */
 static void *call(void *which)
 {
-    coniks_bytes32 policy = {{0}};
-    coniks_kept kept[2] = {{{0}, {0}, 0}};
-    coniks_watch watch = {0}, wanted = {1, (const uint8_t *)"a", 1, 0, NULL, 0};
-    coniks_change changes[2] = {{0, 0, NULL, 0}};
-    coniks_present present = {0};
-    coniks_asking asking = {(const uint8_t *)"a", 1, reply, REPLY, 0, 0};
+    coniks_watch wanted = {1, (const uint8_t *)"a", 1, 0, NULL, 0};
+    coniks_received received = {reply + ENTRY, 209, 1, 0};
+    coniks_asking asking = {(const uint8_t *)"a", 1, reply, REPLY, 0, 0, 0};
     coniks_verdicts verdicts = {1, 1, {{0}}};
     coniks_needs needs;
     coniks_found found;
     coniks_why why;
     coniks_head heads[HEADS] = {{0, 0, {{0}}}};
-    coniks_promise promise = {0};
-    coniks_alarm alarms[2] = {{1, 5}, {2, 5}};
     coniks_covered covered;
     coniks_report report;
     coniks_history all = {(const uint8_t *)"a", 1, history, HISTORY};
     coniks_history_needs all_needs;
     coniks_state_needs state_needs;
-    coniks_saved saved = {kept, 1, {0}, changes, 0, alarms, 0, {{0}}, NULL, 0};
-    coniks_step steps[2] = {{0, NULL, 0, 0, 0}};
+    coniks_step shown[2];
+    coniks_steps steps = {shown, 2, 0};
     uint32_t valid[1] = {1};
     uint8_t written[STATE];
-    uint64_t marks[HEADS] = {0}, epoch;
-    size_t count = 1, change_count = 0, alarm_count = 1, none = 0, place;
+    uint64_t epoch;
+    size_t place;
     uint32_t status = 0;
-    memcpy(kept[0].entry, reply + ENTRY, sizeof kept[0].entry);
+    memcpy(stored[0].entry, reply + ENTRY, sizeof stored[0].entry);
     switch (*(int *)which) {
     case 1:
-        status = coniks_core_feed(&policy, kept, 2, &count, &watch, marks, HEADS, reply + ENTRY, 209, 1, 0, &why);
+        status = coniks_core_feed(&core, &received, &why);
         break;
     case 2:
-        status = coniks_core_reply_needs(kept, 1, reply, REPLY, &needs);
+        status = coniks_core_reply_needs(&core, reply, REPLY, &needs);
         break;
     case 3:
-        status = coniks_core_lookup(&policy, &present, kept, 1, &wanted, changes, 0, &asking, &verdicts, &found, &why);
+        core.watch = wanted;
+        status = coniks_core_lookup(&core, &asking, &verdicts, &found, &why);
         break;
     case 4:
-        status = coniks_core_watch(kept, 1, &watch, changes, 0, &wanted, 0);
+        status = coniks_core_watch(&core, &wanted, 0);
         break;
     case 5:
-        status = coniks_core_expect(kept, 1, &wanted, changes, 2, &change_count, (const uint8_t *)"k", 1, 9);
+        core.watch = wanted;
+        status = coniks_core_expect(&core, (const uint8_t *)"k", 1, 9);
         break;
     case 6:
-        status = coniks_core_compare(kept, 1, 1, &policy, &place);
+        status = coniks_core_compare(&core, 1, &core.rules.policy, &place);
         break;
     case 7:
-        status = coniks_core_evidence(kept, 1, reply + ENTRY, 209, 1, &why);
+        status = coniks_core_evidence(&core, &received, &why);
         break;
     case 8:
         status = (uint32_t)coniks_core_quorum(HEADS, 1);
         break;
     case 9:
-        status = coniks_core_mark(kept, 1, marks, HEADS, 0, 1, &policy);
+        status = coniks_core_mark(&core, 0, 1, &core.rules.policy);
         break;
     case 10:
-        status = coniks_core_confirmed(marks, HEADS, 1, &epoch);
+        status = coniks_core_confirmed(&core, &epoch);
         break;
     case 11:
-        status = coniks_core_relied(kept, 1, 0, marks, HEADS, 1);
+        status = coniks_core_relied(&core, 0);
         break;
     case 12:
-        status = coniks_core_start(&policy, kept, 2, &none, &watch, heads, HEADS, 1, reply + ENTRY, 209, 1, 0, &why);
+        core.stored.count = 0;
+        status = coniks_core_start(&core, heads, HEADS, &received, &why);
         break;
     case 13:
-        marks[0] = 1;
-        status = coniks_core_cover(&present, &promise, kept, 2, &count, marks, HEADS, 1, &wanted, changes, 2, &change_count,
-                                   alarms, 2, &alarm_count, &covered);
+        core.watch = wanted;
+        core.marks[0] = 1;
+        core.alarms.count = 1;
+        status = coniks_core_cover(&core, 0, &covered);
         break;
     case 14:
-        marks[0] = 1;
-        kept[0].seen = 1;
-        status = coniks_core_report(&present, kept, 1, &wanted, &promise, alarms, 0, marks, HEADS, 1, &report);
+        core.watch = wanted;
+        core.marks[0] = 1;
+        core.stored.items[0].seen = 1;
+        status = coniks_core_report(&core, 0, &report);
         break;
     case 15:
-        status = coniks_core_history(kept, 1, &wanted, changes, 0, &all, &verdicts, &siblings, steps, 2, &place);
+        core.watch = wanted;
+        status = coniks_core_history(&core, &all, &verdicts, &siblings, &steps);
         break;
     case 16:
         status = coniks_core_history_needs(history, HISTORY, &all_needs);
         break;
     case 17:
-        status = coniks_core_state_size(&policy, &saved, &place);
+        core.mark_count = 0;
+        status = coniks_core_state_size(&core, &place);
         break;
     case 18:
-        status = coniks_core_state_write(&policy, &saved, written, STATE, &place);
+        core.mark_count = 0;
+        status = coniks_core_state_write(&core, written, STATE, &place);
         break;
     case 19:
-        status = coniks_core_state_needs(&policy, state, STATE, &state_needs);
+        status = coniks_core_state_needs(&core, state, STATE, &state_needs);
         break;
     case 20:
-        status = coniks_core_state_read(&policy, state, STATE, valid, 1, &policy, kept, 2, &count, &watch, changes, 2,
-                                        &change_count, alarms, 2, &alarm_count, marks, HEADS);
+        status = coniks_core_state_read(&core, state, STATE, valid, 1);
         break;
     case 21:
         status = coniks_core_catch_up(reply + ENTRY, 209, &place);
         break;
     case 22:
-        status = coniks_core_note(alarms, 2, &alarm_count, 1);
+        core.alarms.count = 1;
+        status = coniks_core_note(&core, 1);
         break;
     case 23:
-        status = coniks_core_lost(&present, &promise, kept, 1, 0);
+        status = coniks_core_lost(&core, 0, 0);
         break;
     default:
         break;
@@ -140,15 +165,13 @@ static void *call(void *which)
 static size_t taken(int which, int *status)
 {
     *status = which;
+    begin();
     return painted(call, status, NULL);
 }
 
 int main(void)
 {
     int which, status;
-    coniks_bytes32 policy = {{0}};
-    coniks_kept kept = {{0}, {0}, 0};
-    coniks_saved saved = {&kept, 1, {0}, NULL, 0, NULL, 0, {{0}}, NULL, 0};
     size_t size, idle = taken(0, &status);
     reply[0] = 1;
     /* A well-formed entry of version 1 and epoch 1, and a proof that ends with an empty node. */
@@ -161,8 +184,10 @@ int main(void)
     history[STEP + 9] = SIBLINGS >> 8;
     memset(history + STEP + 11, 0xff, SIBLINGS / 8);
     /* The state of a client with this entry. */
-    memcpy(kept.entry, reply + ENTRY, sizeof kept.entry);
-    if (coniks_core_state_write(&policy, &saved, state, STATE, &size) || size != STATE)
+    begin();
+    memcpy(stored[0].entry, reply + ENTRY, sizeof stored[0].entry);
+    core.mark_count = 0;
+    if (coniks_core_state_write(&core, state, STATE, &size) || size != STATE)
         exit(2);
     for (which = 1; which < (int)(sizeof names / sizeof *names); which++) {
         size_t bytes = taken(which, &status) - idle;

@@ -31,20 +31,20 @@ struct meant {
 /* What has happened. Two moments are the same if their bytes are. */
 struct moment {
     uint16_t chain;                                /* the entries that were fed */
-    uint8_t oldest, first_key;                     /* the first kept epoch; the watched key before the changes */
-    uint8_t seen[MOST];                            /* the numbers of the kept epochs */
+    uint8_t oldest, first_key;                     /* the first stored epoch; the watched key before the changes */
+    uint8_t seen[MOST];                            /* the numbers of the stored epochs */
     uint8_t change_count, meant_count, same;       /* bit e of `same`: epoch e was the same */
     uint8_t alarms, noted;                         /* the epochs that have an alarm, and those whose alarm was noted */
     struct meant changes[CHANGES], meant[CHANGES]; /* the core's changes: last_old, first_new and key; and the owner's */
 };
 
-/* A client at a moment, as its caller in C has it. */
+/* A client at a moment, as its caller in C has it: the core, its memory, and the mark of one auditor. */
 struct client {
-    coniks_kept kept[MOST + 1];
-    coniks_watch watch;
+    coniks_core core;
+    coniks_stored_entry stored[MOST + 1];
     coniks_change changes[CHANGES + 1];
     coniks_alarm alarms[MOST + 1];
-    size_t count, change_count, alarm_count;
+    uint64_t mark;
 };
 
 static const uint8_t names[2][6] = {"alice", "bob"}, name_lengths[2] = {5, 3};
@@ -254,55 +254,77 @@ static void set_key(const uint8_t **key, size_t *length, int letter)
     *length = letters[letter] != '-';
 }
 
-static struct client client_at(const struct moment *at)
+static void set_epochs(coniks_stored *stored, const struct moment *at)
 {
-    struct client it;
-    int epoch, place;
-    memset(&it, 0, sizeof it);
-    for (epoch = at->oldest; epoch <= chains[at->chain].epoch; epoch++, it.count++) {
-        memcpy(it.kept[it.count].entry, chains[up_to(at->chain, epoch)].entry, ENTRY);
-        it.kept[it.count].seen = at->seen[it.count];
+    int epoch;
+    for (epoch = at->oldest; epoch <= chains[at->chain].epoch; epoch++, stored->count++) {
+        memcpy(stored->items[stored->count].entry, chains[up_to(at->chain, epoch)].entry, ENTRY);
+        stored->items[stored->count].seen = at->seen[stored->count];
     }
-    it.watch.is_watched = 1;
-    it.watch.name = names[0];
-    it.watch.name_length = name_lengths[0];
-    it.watch.since = 1;
-    set_key(&it.watch.key, &it.watch.key_length, at->first_key);
-    for (place = 0; place < at->change_count; place++) {
-        coniks_change *change = &it.changes[it.change_count++];
-        change->last_old = at->changes[place].after;
-        change->first_new = at->changes[place].by;
-        set_key(&change->key, &change->key_length, at->changes[place].letter);
+}
+
+static void set_changes(coniks_changes *changes, const struct moment *at)
+{
+    for (; changes->count < at->change_count; changes->count++) {
+        const struct meant *meant = &at->changes[changes->count];
+        coniks_change *change = &changes->items[changes->count];
+        change->last_old = meant->after;
+        change->first_new = meant->by;
+        set_key(&change->key, &change->key_length, meant->letter);
     }
+}
+
+static void set_alarms(coniks_alarms *alarms, const struct moment *at)
+{
+    int epoch;
     for (epoch = 1; epoch < at->oldest; epoch++) {
-        if (at->alarms >> epoch & 1) {
-            it.alarms[it.alarm_count].epoch = (uint64_t)epoch;
-            it.alarms[it.alarm_count++].seen = 5;
-        }
+        if (at->alarms >> epoch & 1)
+            alarms->items[alarms->count++] = (coniks_alarm){(uint64_t)epoch, 5};
     }
+}
+
+/* Makes the client at a moment. Its auditor confirms nothing yet. */
+static coniks_core *client_at(const struct moment *at, struct client *memory)
+{
+    coniks_core *it = &memory->core;
+    memset(memory, 0, sizeof *memory);
+    it->rules.policy = policy;
+    it->rules.quorum = 1;
+    it->watch = (coniks_watch){1, names[0], name_lengths[0], 1, NULL, 0};
+    set_key(&it->watch.key, &it->watch.key_length, at->first_key);
+    it->stored = (coniks_stored){memory->stored, MOST + 1, 0};
+    it->changes = (coniks_changes){memory->changes, CHANGES + 1, 0};
+    it->alarms = (coniks_alarms){memory->alarms, MOST + 1, 0};
+    it->marks = &memory->mark;
+    it->mark_count = 1;
+    set_epochs(&it->stored, at);
+    set_changes(&it->changes, at);
+    set_alarms(&it->alarms, at);
     return it;
 }
 
 /* Notes in a moment what has become of its client. */
-static void note(struct moment *at, const struct client *it)
+static void note(struct moment *at, const coniks_core *it)
 {
+    const coniks_change *changes = it->changes.items;
+    const coniks_alarm *alarms = it->alarms.items;
     size_t place;
     memset(at->seen, 0, sizeof at->seen);
     memset(at->changes, 0, sizeof at->changes);
-    for (place = 0; place < it->count; place++)
-        at->seen[place] = it->kept[place].seen;
-    at->oldest = it->count ? it->kept[0].entry[8] : 1;
+    for (place = 0; place < it->stored.count; place++)
+        at->seen[place] = it->stored.items[place].seen;
+    at->oldest = it->stored.count ? it->stored.items[0].entry[8] : 1;
     at->first_key = (uint8_t)((const char *)it->watch.key - letters);
-    at->change_count = (uint8_t)it->change_count;
-    for (place = 0; place < it->change_count; place++) {
-        at->changes[place].after = (uint8_t)it->changes[place].last_old;
-        at->changes[place].by = (uint8_t)it->changes[place].first_new;
-        at->changes[place].letter = (uint8_t)((const char *)it->changes[place].key - letters);
+    at->change_count = (uint8_t)it->changes.count;
+    for (place = 0; place < it->changes.count; place++) {
+        at->changes[place].after = (uint8_t)changes[place].last_old;
+        at->changes[place].by = (uint8_t)changes[place].first_new;
+        at->changes[place].letter = (uint8_t)((const char *)changes[place].key - letters);
     }
     at->alarms = 0;
-    for (place = 0; place < it->alarm_count; place++) {
-        must(it->alarms[place].seen == 5, "an alarm is not of a lost epoch", at, place);
-        at->alarms |= (uint8_t)(1 << it->alarms[place].epoch);
+    for (place = 0; place < it->alarms.count; place++) {
+        must(alarms[place].seen == 5, "an alarm is not of a lost epoch", at, place);
+        at->alarms |= (uint8_t)(1 << alarms[place].epoch);
     }
 }
 
@@ -356,40 +378,41 @@ static void reach(const struct moment *it)
 
 /* The steps from a moment. */
 
-static uint32_t look_up(struct client *it, int who, const struct chain *shown, int epoch, coniks_found *found, coniks_why *why)
+/* Looks a name up at the last epoch of a chain, by the reply for it there. */
+static uint32_t look_up(coniks_core *it, int who, const struct chain *shown, coniks_found *found, coniks_why *why)
 {
-    coniks_present present = {0};
     coniks_verdicts verdicts = {1, 1, {{0}}};
-    coniks_asking asking = {names[who], name_lengths[who], shown->reply[who], shown->length[who], 1, (uint64_t)epoch};
+    coniks_asking asking = {names[who], name_lengths[who], shown->reply[who], shown->length[who], 1, (uint64_t)shown->epoch, 0};
     index_of(who, verdicts.at.bytes);
-    return coniks_core_lookup(&policy, &present, it->kept, it->count, &it->watch, it->changes, it->change_count, &asking,
-                              &verdicts, found, why);
+    return coniks_core_lookup(it, &asking, &verdicts, found, why);
 }
 
 static void look_up_each(const struct moment *at)
 {
     int epoch;
     for (epoch = at->oldest; epoch <= chains[at->chain].epoch; epoch++) {
-        struct client it = client_at(at);
+        const struct chain *shown = &chains[up_to(at->chain, epoch)];
+        struct client memory;
+        coniks_core *it = client_at(at, &memory);
         struct moment next = *at;
         coniks_found found;
         coniks_why why;
-        uint32_t status = look_up(&it, 0, &chains[up_to(at->chain, epoch)], epoch, &found, &why);
+        uint32_t status = look_up(it, 0, shown, &found, &why);
         must(status == 0 && found.place == (size_t)(epoch - at->oldest), "an honest reply is refused", at, 0);
-        must(found.seen == it.kept[found.place].seen, "an epoch has another number than the reply", at, 0);
+        must(found.seen == it->stored.items[found.place].seen, "an epoch has another number than the reply", at, 0);
         lookups[found.seen != 1]++;
         if (found.seen != 1) {
             must(!(at->same >> epoch & 1), "another key after the same", at, 0);
             must(!is_honest(at), "another key of an honest directory", at, 0);
             continue;
         }
-        note(&next, &it);
+        note(&next, it);
         next.same |= (uint8_t)(1 << epoch);
         reach(&next);
-        it = client_at(at);
-        status = look_up(&it, 1, &chains[up_to(at->chain, epoch)], epoch, &found, &why);
+        it = client_at(at, &memory);
+        status = look_up(it, 1, shown, &found, &why);
         next = *at;
-        note(&next, &it);
+        note(&next, it);
         must(status == 0 && found.seen == 0 && !memcmp(&next, at, sizeof next), "a lookup of bob marks something", at, 0);
     }
 }
@@ -404,23 +427,25 @@ static int is_usable(const struct moment *at, int letter)
     return is_used;
 }
 
-static uint32_t feed(struct client *it, const struct chain *next, coniks_why *why)
+static uint32_t feed(coniks_core *it, const struct chain *next, coniks_why *why)
 {
-    return coniks_core_feed(&policy, it->kept, MOST + 1, &it->count, &it->watch, NULL, 0, next->entry, ENTRY, 1, 0, why);
+    const coniks_received received = {next->entry, ENTRY, 1, 0};
+    return coniks_core_feed(it, &received, why);
 }
 
 static void feed_each(const struct moment *at)
 {
     size_t next;
     for (next = 1; next < chain_count; next++) {
-        struct client it = client_at(at);
+        struct client memory;
+        coniks_core *it = client_at(at, &memory);
         struct moment after = *at;
         coniks_why why;
         if (chains[next].before != at->chain || !is_usable(at, chains[next].letter))
             continue;
-        must(feed(&it, &chains[next], &why) == 0, "the next entry is refused", at, next);
+        must(feed(it, &chains[next], &why) == 0, "the next entry is refused", at, next);
         after.chain = (uint16_t)next;
-        note(&after, &it);
+        note(&after, it);
         reach(&after);
     }
 }
@@ -430,15 +455,15 @@ static void expect_each(const struct moment *at)
     int letter, by, latest = chains[at->chain].epoch;
     for (letter = 0; at->meant_count < CHANGES && letter < letter_count; letter++) {
         for (by = latest + 1; is_usable(at, letter) && by <= epochs + 1; by++) {
-            struct client it = client_at(at);
+            struct client memory;
+            coniks_core *it = client_at(at, &memory);
             struct moment after = *at;
             const uint8_t *key;
             size_t length;
             set_key(&key, &length, letter);
-            if (coniks_core_expect(it.kept, it.count, &it.watch, it.changes, CHANGES + 1, &it.change_count, key, length,
-                                   (uint64_t)by))
+            if (coniks_core_expect(it, key, length, (uint64_t)by))
                 continue;
-            note(&after, &it);
+            note(&after, it);
             after.meant[after.meant_count].after = (uint8_t)latest;
             after.meant[after.meant_count].by = (uint8_t)by;
             after.meant[after.meant_count++].letter = (uint8_t)letter;
@@ -447,7 +472,7 @@ static void expect_each(const struct moment *at)
     }
 }
 
-/* How many of the first kept epochs may be dropped, if one is confirmed: those before it and before the first missing one that is not lost. */
+/* How many of the first stored epochs may be dropped, if one is confirmed: those before it and before the first missing one that is not lost. */
 static size_t droppable(const struct moment *at, int confirmed, int is_over)
 {
     size_t place = 0;
@@ -459,27 +484,26 @@ static size_t droppable(const struct moment *at, int confirmed, int is_over)
 /* A cover, if this epoch is confirmed, and the promise of proofs is over or not. */
 static void cover(const struct moment *at, int epoch, int is_over)
 {
-    struct client it = client_at(at);
+    struct client memory;
+    coniks_core *it = client_at(at, &memory);
     struct moment after = *at;
-    uint64_t mark = (uint64_t)epoch;
     size_t place, dropped = droppable(at, epoch, is_over), alarms = 0;
-    coniks_present present = {0};
-    coniks_promise promise = {(uint32_t)is_over, 0};
     coniks_covered covered;
-    must(coniks_core_cover(&present, &promise, it.kept, MOST + 1, &it.count, &mark, 1, 1, &it.watch, it.changes, CHANGES + 1,
-                           &it.change_count, it.alarms, MOST + 1, &it.alarm_count, &covered) == 0,
-         "a cover is refused", at, 0);
-    note(&after, &it);
+    it->marks[0] = (uint64_t)epoch;
+    it->rules.promise.is_limited = (uint32_t)is_over;
+    must(coniks_core_cover(it, 0, &covered) == 0, "a cover is refused", at, 0);
+    note(&after, it);
     must(after.oldest == at->oldest + covered.epochs && covered.epochs == dropped, "a cover drops others", at, 0);
     for (place = 0; place < dropped; place++) {
         int bit = at->oldest + (int)place, has = after.alarms >> bit & 1;
         must(at->seen[place] == 1 ? (at->same >> bit & 1) && !has : has, "a dropped epoch without its alarm", at, place);
         alarms += (size_t)has;
     }
-    must(covered.alarms == alarms && it.alarm_count == (size_t)__builtin_popcount(at->alarms) + alarms, "other alarms", at, 0);
+    must(covered.alarms == alarms && it->alarms.count == (size_t)__builtin_popcount(at->alarms) + alarms, "other alarms", at,
+         0);
     if (notes_at_once) {
-        must(coniks_core_note(it.alarms, MOST + 1, &it.alarm_count, mark) == 0 && !it.alarm_count, "no note", at, 0);
-        note(&after, &it);
+        must(coniks_core_note(it, (uint64_t)epoch) == 0 && !it->alarms.count, "no note", at, 0);
+        note(&after, it);
     }
     reach(&after);
 }
@@ -496,17 +520,18 @@ static void note_each(const struct moment *at)
 {
     int epoch;
     for (epoch = 1; at->alarms && epoch < at->oldest; epoch++) {
-        struct client it = client_at(at);
+        struct client memory;
+        coniks_core *it = client_at(at, &memory);
         struct moment after = *at;
-        must(coniks_core_note(it.alarms, MOST + 1, &it.alarm_count, (uint64_t)epoch) == 0, "no note", at, 0);
-        note(&after, &it);
+        must(coniks_core_note(it, (uint64_t)epoch) == 0, "no note", at, 0);
+        note(&after, it);
         must(after.alarms == (at->alarms & ~((2u << epoch) - 1)), "another alarm is noted", at, 0);
         after.noted |= at->alarms & ~after.alarms;
         reach(&after);
     }
 }
 
-/* Whether there is no alarm, and all epochs from the oldest kept one on were the same. */
+/* Whether there is no alarm, and all epochs from the oldest stored one on were the same. */
 static int is_all_same(const struct moment *at)
 {
     int place, count = chains[at->chain].epoch - at->oldest + 1;
@@ -516,7 +541,7 @@ static int is_all_same(const struct moment *at)
     return count > 0 && !at->alarms;
 }
 
-/* The first missing kept epoch that is lost, or that is not; 0 if there is none. The latest one is never lost. */
+/* The first missing stored epoch that is lost, or that is not; 0 if there is none. The latest one is never lost. */
 static int first_missing(const struct moment *at, int is_over, int is_lost)
 {
     int epoch, latest = chains[at->chain].epoch;
@@ -547,19 +572,18 @@ static coniks_report reported(const struct moment *at, int is_over, uint64_t mar
 /* What the client reports, if its auditor confirms the latest epoch, and if not. No epoch shows another key. */
 static void report(const struct moment *at, int is_over)
 {
-    struct client it = client_at(at);
-    coniks_present present = {0};
-    coniks_promise promise = {(uint32_t)is_over, 0};
-    coniks_report said, wanted;
+    struct client memory;
+    coniks_core *it = client_at(at, &memory);
+    coniks_report message, wanted;
     uint64_t latest = (uint64_t)chains[at->chain].epoch, mark;
+    it->rules.promise.is_limited = (uint32_t)is_over;
     for (mark = latest ? latest - 1 : 0; mark <= latest; mark++) {
-        must(coniks_core_report(&present, it.kept, it.count, &it.watch, &promise, it.alarms, it.alarm_count, &mark, 1, 1,
-                                &said) == 0,
-             "no report", at, 0);
+        it->marks[0] = mark;
+        must(coniks_core_report(it, 0, &message) == 0, "no report", at, 0);
         wanted = reported(at, is_over, mark);
-        must(said.verdict == wanted.verdict, "another verdict is reported", at, wanted.verdict);
-        must(said.from == wanted.from && said.to == wanted.to, "a report is about other epochs", at, 0);
-        must((said.verdict == CONIKS_REPORT_GOOD) == (is_all_same(at) && mark == latest), "a report is good", at, 0);
+        must(message.verdict == wanted.verdict, "another verdict is reported", at, wanted.verdict);
+        must(message.from == wanted.from && message.to == wanted.to, "a report is about other epochs", at, 0);
+        must((message.verdict == CONIKS_REPORT_GOOD) == (is_all_same(at) && mark == latest), "a report is good", at, 0);
     }
 }
 
@@ -574,29 +598,32 @@ static int is_accounted(const struct moment *at)
 static void try_fork(const struct moment *at, size_t other)
 {
     const struct chain *fork = &chains[other];
-    unsigned is_kept = fork->epoch >= at->oldest && fork->epoch <= chains[at->chain].epoch;
+    unsigned is_stored = fork->epoch >= at->oldest && fork->epoch <= chains[at->chain].epoch;
     struct moment after = *at;
-    struct client it = client_at(at);
+    struct client memory;
+    coniks_core *it = client_at(at, &memory);
     coniks_found found;
     coniks_why why = {0};
-    uint32_t status = look_up(&it, 0, fork, fork->epoch, &found, &why);
-    must(status == (is_kept ? CONIKS_CORE_E_EQUIVOCATION : CONIKS_CORE_E_UNKNOWN_EPOCH), "a reply of another chain", at, other);
-    must(why.kind == is_kept && (!is_kept || why.mine == (size_t)(fork->epoch - at->oldest)), "its evidence", at, other);
-    status = feed(&it, fork, &why);
-    must(status != 0 && (status == CONIKS_CORE_E_EQUIVOCATION) == is_kept, "an entry of another chain", at, other);
-    note(&after, &it);
+    uint32_t status = look_up(it, 0, fork, &found, &why);
+    must(status == (is_stored ? CONIKS_CORE_E_EQUIVOCATION : CONIKS_CORE_E_UNKNOWN_EPOCH), "a reply of another chain", at,
+         other);
+    must(why.kind == is_stored && (!is_stored || why.mine == (size_t)(fork->epoch - at->oldest)), "its evidence", at, other);
+    status = feed(it, fork, &why);
+    must(status != 0 && (status == CONIKS_CORE_E_EQUIVOCATION) == is_stored, "an entry of another chain", at, other);
+    note(&after, it);
     must(!memcmp(&after, at, sizeof after), "a refused call changes something", at, other);
     refused += 2;
 }
 
 /*
- * The owner law, with Bob's client on another chain: if all kept epochs of Alice are the same, and Bob's head is equal to one of hers,
- * then what his client accepts there at a kept epoch is the same for her.
+ * The owner law, with Bob's client on another chain: if all stored epochs of Alice are the same, and Bob's head is equal to one of hers,
+ * then what his client accepts there at a stored epoch is the same for her.
  */
 static void compare_with(const struct moment *at, size_t bob)
 {
     coniks_bytes32 link;
-    struct client hers = client_at(at), his;
+    struct client memory, his_memory;
+    coniks_core *hers = client_at(at, &memory), *his;
     size_t place;
     coniks_found found, again;
     coniks_why why;
@@ -604,7 +631,7 @@ static void compare_with(const struct moment *at, size_t bob)
     int epoch;
     memcpy(link.bytes, chains[bob].link, 32);
     compared++;
-    if (coniks_core_compare(hers.kept, hers.count, (uint64_t)chains[bob].epoch, &link, &place) != 1) {
+    if (coniks_core_compare(hers, (uint64_t)chains[bob].epoch, &link, &place) != 1) {
         must(up_to(at->chain, chains[bob].epoch) != bob, "an equal head is not found", at, bob);
         forks++;
         return;
@@ -613,12 +640,12 @@ static void compare_with(const struct moment *at, size_t bob)
     memset(&his_moment, 0, sizeof his_moment);
     his_moment.chain = (uint16_t)bob;
     his_moment.oldest = 1;
-    his = client_at(&his_moment);
-    his.watch.is_watched = 0;
+    his = client_at(&his_moment, &his_memory);
+    his->watch.is_watched = 0;
     for (epoch = at->oldest; epoch <= chains[bob].epoch; epoch++) {
         const struct chain *shown = &chains[up_to(bob, epoch)];
-        must(look_up(&his, 0, shown, epoch, &found, &why) == 0, "Bob's reply is refused", at, bob);
-        must(look_up(&hers, 0, shown, epoch, &again, &why) == 0 && again.seen == 1 && again.shows == found.shows,
+        must(look_up(his, 0, shown, &found, &why) == 0, "Bob's reply is refused", at, bob);
+        must(look_up(hers, 0, shown, &again, &why) == 0 && again.seen == 1 && again.shows == found.shows,
              "Bob accepted a key that is not Alice's", at, bob);
     }
 }

@@ -11,16 +11,16 @@ use Rattle.std.proofs.lemmas.List.Elements.{All-head, All-tail}
 use Rattle.std.proofs.lemmas.Option.{same_Some, slice_get-get_or, slice_get_within}
 use Rattle.coniks_proof.specs.Sha256.{sha256}
 use Rattle.coniks_client.specs.Changes.{expected, wanted}
-use Rattle.coniks_client.specs.Kept.{verified_before}
+use Rattle.coniks_client.specs.StoredEntry.{verified_before}
 use Rattle.coniks_client.specs.Owner.{IsBacked, IsWatched, Scheme}
 use Rattle.coniks_client.specs.declared.changes.Change.{Change}
-use Rattle.coniks_client.specs.declared.kept.Kept.{Kept}
+use Rattle.coniks_client.specs.declared.stored.StoredEntry.{StoredEntry}
 use Rattle.coniks_client.specs.declared.watching.Watch.{Watch}
 use Rattle.coniks_quorum.specs.declared.alarms.Alarm.{Alarm}
-use Rattle.coniks_quorum.specs.StateForms.{IsKept, IsSizedWatch, IsStateOf}
+use Rattle.coniks_quorum.specs.StateForms.{IsStored, IsSizedWatch, IsStateOf}
 use Rattle.coniks_quorum.specs.StateLaws.{IsMadeOf, PartsLaw, WatchedLaw}
 use Rattle.coniks_quorum.specs.Restoring.{AreVerified}
-use Rattle.coniks_quorum.specs.Saved.{SavedState, SavedWatch, alarm_bytes, alarm_from, body_bytes, counted_bytes, kept_bytes, kept_from, mark_bytes, mark_from, saved_change, watch_bytes}
+use Rattle.coniks_quorum.specs.Saved.{SavedState, SavedWatch, alarm_bytes, alarm_from, body_bytes, counted_bytes, stored_bytes, stored_from, mark_bytes, mark_from, saved_change, watch_bytes}
 use Rattle.coniks_quorum.specs.Says.{Says, SaysWatch, SaysWatched}
 use Rattle.coniks_quorum.specs.declared.states.client.Client.{Client}
 use Rattle.coniks_quorum.specs.declared.states.reading.StateFault.{StateFault}
@@ -29,8 +29,8 @@ use Rattle.coniks_quorum.specs.declared.states.state.State.{State}
 use Rattle.coniks_quorum.specs.declared.states.state.Watched.{Watched}
 use Rattle.coniks_c.specs.Checked.{part}
 use Rattle.coniks_c.specs.CoreStatuses.{state_status}
-use Rattle.coniks_c.specs.CoreStates.{AreCopied, AreToldBy, AreValid, HasRoomFor, IsNoChain, IsRefusedChain, IsTaken, IsUnread, changes_in, client_state, count_in, told_at}
-use Rattle.coniks_c.specs.declared.core_state.Room.{Room}
+use Rattle.coniks_c.specs.CoreStates.{AreCopied, AreReportedBy, AreValid, HasRoomFor, IsNoChain, IsRefusedChain, IsUnread, client_state, count_in, reported_at, saved_changes}
+use Rattle.coniks_c.specs.declared.core_client.RawCore.{RawCore}
 
 -- ---- where the entries are
 
@@ -40,32 +40,32 @@ take_front n a b size = take-append-le n a b (omega (arith, size)) ∙ ap (λ (m
 drop_front : (n : ℕ) (a b : List ℕ) → length a ≡ n → drop n (a ++ b) ≡ b
 drop_front n a b size = ap (λ (m : ℕ). drop m (a ++ b)) (sym size) ∙ drop-append_seam a b
 
-kept_size : (x : Kept) → IsKept x → length (kept_bytes x) ≡ 218
-kept_size x is =
+stored_size : (x : StoredEntry) → IsStored x → length (stored_bytes x) ≡ 218
+stored_size x is =
     let outer = length-append (x.entry ++ x.first_seen) (x.seen ∷ []) in
     let inner = length-append x.entry x.first_seen in
     omega (arith, outer, inner, is.entry, is.time)
 
--- among the bytes of the kept epochs
-kept_part : (kept : List Kept) (rest : List ℕ) → All IsKept kept → (k : ℕ) (mine : Kept) → slice_get kept k ≡ Some mine
-    → take 209 (drop (k * 218) (flat_map kept_bytes kept ++ rest)) ≡ mine.entry
-kept_part [] rest sized k mine at = absurd (cc)
-kept_part (x ∷ later) rest sized zero mine at =
+-- among the bytes of the stored epochs
+stored_part : (stored : List StoredEntry) (rest : List ℕ) → All IsStored stored → (k : ℕ) (mine : StoredEntry) → slice_get stored k ≡ Some mine
+    → take 209 (drop (k * 218) (flat_map stored_bytes stored ++ rest)) ≡ mine.entry
+stored_part [] rest sized k mine at = absurd (cc)
+stored_part (x ∷ later) rest sized zero mine at =
     let one : x ≡ mine = same_Some x mine at in
-    let is = All-head IsKept x later sized in
-    let others = flat_map kept_bytes later ++ rest in
+    let is = All-head IsStored x later sized in
+    let others = flat_map stored_bytes later ++ rest in
     let last = (x.seen ∷ []) ++ others in
-    ap (take 209) (append_assoc (kept_bytes x) (flat_map kept_bytes later) rest ∙ append_assoc (x.entry ++ x.first_seen) (x.seen ∷ []) others ∙ append_assoc x.entry x.first_seen last)
-    ∙ take_front 209 x.entry (x.first_seen ++ last) is.entry ∙ ap (λ (y : Kept). y.entry) one
-kept_part (x ∷ later) rest sized (suc k) mine at =
-    let is = All-head IsKept x later sized in
-    let others = flat_map kept_bytes later ++ rest in
-    let whole = flat_map kept_bytes (x ∷ later) ++ rest in
+    ap (take 209) (append_assoc (stored_bytes x) (flat_map stored_bytes later) rest ∙ append_assoc (x.entry ++ x.first_seen) (x.seen ∷ []) others ∙ append_assoc x.entry x.first_seen last)
+    ∙ take_front 209 x.entry (x.first_seen ++ last) is.entry ∙ ap (λ (y : StoredEntry). y.entry) one
+stored_part (x ∷ later) rest sized (suc k) mine at =
+    let is = All-head IsStored x later sized in
+    let others = flat_map stored_bytes later ++ rest in
+    let whole = flat_map stored_bytes (x ∷ later) ++ rest in
     let far : suc k * 218 ≡ 218 + k * 218 = omega arith in
     ap (λ (n : ℕ). take 209 (drop n whole)) far
     ∙ ap (take 209) (sym (drop-drop (k * 218) 218 whole)
-    ∙ ap (drop (k * 218)) (ap (drop 218) (append_assoc (kept_bytes x) (flat_map kept_bytes later) rest) ∙ drop_front 218 (kept_bytes x) others (kept_size x is)))
-    ∙ kept_part later rest (All-tail IsKept x later sized) k mine at
+    ∙ ap (drop (k * 218)) (ap (drop 218) (append_assoc (stored_bytes x) (flat_map stored_bytes later) rest) ∙ drop_front 218 (stored_bytes x) others (stored_size x is)))
+    ∙ stored_part later rest (All-tail IsStored x later sized) k mine at
 
 -- what is before them, and what is after them
 shape : (p w f a t m v s : List ℕ) → (p ++ (w ++ f ++ a ++ t ++ m ++ v)) ++ s ≡ (p ++ w) ++ (f ++ (a ++ (t ++ (m ++ (v ++ s)))))
@@ -78,11 +78,11 @@ shape p w f a t m v s =
     ∙ sym (append_assoc p w (f ++ (a ++ (t ++ (m ++ (v ++ s))))))
 
 -- among the bytes of a state
-pub entry-there : (policy state : List ℕ) (saved : SavedState) → IsStateOf sha256 policy saved state → (k : ℕ) (mine : Kept) → slice_get saved.kept k ≡ Some mine
+pub entry-there : (policy state : List ℕ) (saved : SavedState) → IsStateOf sha256 policy saved state → (k : ℕ) (mine : StoredEntry) → slice_get saved.stored k ≡ Some mine
     → part state (37 + k * 218) 209 ≡ mine.entry
 entry-there policy state saved is k mine at =
-    let count = to_be_bytes w32 (length saved.kept) in
-    let epochs = flat_map kept_bytes saved.kept in
+    let count = to_be_bytes w32 (length saved.stored) in
+    let epochs = flat_map stored_bytes saved.stored in
     let seal = sha256 (body_bytes saved) in
     let alarms = counted_bytes alarm_bytes saved.alarms in
     let marks = counted_bytes mark_bytes saved.marks in
@@ -95,16 +95,16 @@ entry-there policy state saved is k mine at =
     let whole : state ≡ front ++ (epochs ++ rest) = is.bytes_of.is_sealed.same ∙ shape head count epochs alarms saved.trust marks (watch_bytes saved.watch) seal in
     ap (λ (s : List ℕ). part s (37 + k * 218) 209) whole
     ∙ ap (take 209) (sym (drop-drop (k * 218) 37 (front ++ (epochs ++ rest))) ∙ ap (drop (k * 218)) (drop_front 37 front (epochs ++ rest) size))
-    ∙ kept_part saved.kept rest is.bytes_of.sized.kept.sized k mine at
+    ∙ stored_part saved.stored rest is.bytes_of.sized.stored.sized k mine at
 
--- the numbers of kept epochs, of alarms and of changes
-pub kept-count : (parts : State) (saved : SavedState) → Says parts saved → length parts.kept.now ≡ length saved.kept
-kept-count parts saved says = sym (length-map parts.kept.now kept_from) ∙ ap length says.kept
+-- the numbers of stored epochs, of alarms and of changes
+pub stored-count : (parts : State) (saved : SavedState) → Says parts saved → length parts.stored.now ≡ length saved.stored
+stored-count parts saved says = sym (length-map parts.stored.now stored_from) ∙ ap length says.stored
 
 pub alarm-count : (parts : State) (saved : SavedState) → Says parts saved → length parts.alarms.now ≡ length saved.alarms
 alarm-count parts saved says = sym (length-map parts.alarms.now alarm_from) ∙ ap length says.alarms
 
-pub change-count : (watched : Option Watched) (saved : Option SavedWatch) → SaysWatch watched saved → count_in watched ≡ length (changes_in saved)
+pub change-count : (watched : Option Watched) (saved : Option SavedWatch) → SaysWatch watched saved → count_in watched ≡ length (saved_changes saved)
 change-count None None says = refl
 change-count None (Some s) says = absurd says
 change-count (Some w) None says = absurd says
@@ -118,24 +118,24 @@ valid-more verdicts n valid here k less = ⊎_elim
     (λ (le : n ≤ k). let same : k ≡ n = omega arith in ap (slice_get verdicts) same ∙ here)
     (cases_lt k n)
 
-says_one : (told : Option ℕ) → (told_at told == 1) ≡ true → told ≡ Some 1
+says_one : (reported : Option ℕ) → (reported_at reported == 1) ≡ true → reported ≡ Some 1
 says_one None is = absurd (cc)
 says_one (Some n) is = let one : n ≡ 1 = grind (arith, nat_tests) in ap (λ (m : ℕ). Some m) one
 
-module _ (verdict : List ℕ → List ℕ → Bool) (policy : List ℕ) (kept : List Kept) (verdicts : List ℕ) (told : AreToldBy verdict kept verdicts) where
-  pub verified-alike : AreValid verdicts (length kept) → AreVerified verified_before policy kept → AreVerified verdict policy kept
+module _ (verdict : List ℕ → List ℕ → Bool) (policy : List ℕ) (stored : List StoredEntry) (verdicts : List ℕ) (reported : AreReportedBy verdict stored verdicts) where
+  pub verified-alike : AreValid verdicts (length stored) → AreVerified verified_before policy stored → AreVerified verdict policy stored
   verified-alike valid verified k mine at =
       let is = verified k mine at in
-      let one = ap told_at (valid k (slice_get_within kept k mine at)) in
-      record { signed = record { whole = is.signed.whole; signed = told k mine at ∙ ap (λ (n : ℕ). n == 1) one }; own = is.own }
+      let one = ap reported_at (valid k (slice_get_within stored k mine at)) in
+      record { signed = record { whole = is.signed.whole; signed = reported k mine at ∙ ap (λ (n : ℕ). n == 1) one }; own = is.own }
 
-  pub no-chain : IsRefusedChain policy kept verdicts → IsNoChain verdict policy kept
+  pub no-chain : IsRefusedChain policy stored verdicts → IsNoChain verdict policy stored
   no-chain (inl invalid) =
       let k = invalid.0 in
-      let none : Kept = record { entry = []; first_seen = []; seen = 0 } in
-      let mine = get_or kept k none in
-      let at = slice_get-get_or kept k none invalid.1 in
-      (k, mine, at, λ good. invalid.2 (says_one (slice_get verdicts k) (sym (told k mine at) ∙ good.verified.signed.signed)))
+      let none : StoredEntry = record { entry = []; first_seen = []; seen = 0 } in
+      let mine = get_or stored k none in
+      let at = slice_get-get_or stored k none invalid.1 in
+      (k, mine, at, λ good. invalid.2 (says_one (slice_get verdicts k) (sym (reported k mine at) ∙ good.verified.signed.signed)))
   no-chain (inr bad) =
       let here = bad.1.1.here in (
         bad.1.0,
@@ -149,10 +149,10 @@ module _ (verdict : List ℕ → List ℕ → Bool) (policy : List ℕ) (kept : 
 
 -- ---- the client that is read
 
-abbrev client_with : List ℕ → List Kept → Option Watch → List Change → List Alarm → List ℕ → List ℕ → Client
-client_with policy kept watch changes alarms trust marks = record {
+abbrev client_with : List ℕ → List StoredEntry → Option Watch → List Change → List Alarm → List ℕ → List ℕ → Client
+client_with policy stored watch changes alarms trust marks = record {
   policy = record { ref_ptr = (0, 0); now = policy };
-  kept = record { ref_ptr = (0, 0); now = kept };
+  stored = record { ref_ptr = (0, 0); now = stored };
   alarms = record { ref_ptr = (0, 0); now = alarms };
   trust = record { ref_ptr = (0, 0); now = trust };
   marks = record { ref_ptr = (0, 0); now = marks };
@@ -161,33 +161,33 @@ client_with policy kept watch changes alarms trust marks = record {
 }
 
 pub same-state : PartsLaw → (policy state : List ℕ) (parts : State) (saved : SavedState) → IsStateOf sha256 policy saved state → Says parts saved
-    → (kept : List Kept) (watch : Option Watch) (changes : List Change) (alarms : List Alarm) (count : ℕ) → kept ≡ map kept_from parts.kept.now
+    → (stored : List StoredEntry) (watch : Option Watch) (changes : List Change) (alarms : List Alarm) (count : ℕ) → stored ≡ map stored_from parts.stored.now
     → watch ≡ option_map (λ watched. watched.watch) parts.watch → AreCopied parts.watch changes count → alarms ≡ map alarm_from parts.alarms.now
-    → IsStateOf sha256 policy (client_state policy kept watch changes alarms parts.trust.now (map mark_from parts.marks.now)) state
-same-state law policy state parts saved is says kept watch changes alarms count kept_is watch_is copied alarms_are =
-    let client = client_with policy kept watch changes alarms parts.trust.now (map mark_from parts.marks.now) in
+    → IsStateOf sha256 policy (client_state policy stored watch changes alarms parts.trust.now (map mark_from parts.marks.now)) state
+same-state law policy state parts saved is says stored watch changes alarms count stored_is watch_is copied alarms_are =
+    let client = client_with policy stored watch changes alarms parts.trust.now (map mark_from parts.marks.now) in
     let made : IsMadeOf client parts saved = record {
       policy = sym is.own;
-      kept = kept_is;
+      stored = stored_is;
       alarms = alarms_are;
       trust = refl;
       marks = refl;
       watch = watch_is;
-      changes = λ watch at. (copied saved.watch is.bytes_of.sized.watch says.watch).1 ∙ ap changes_in at;
+      changes = λ watch at. (copied saved.watch is.bytes_of.sized.watch says.watch).1 ∙ ap saved_changes at;
     } in
     subst (λ (s : SavedState). IsStateOf sha256 policy s state) (sym (law client parts saved says made)) is
 
-pub watched-state : WatchedLaw → (policy state trust : List ℕ) (kept : List Kept) (watch : Option Watch) (changes : List Change) (alarms : List Alarm)
-    (marks : List ℕ) → IsTaken policy state trust kept watch changes alarms marks
-    → IfSome watch (λ watch. (scheme : Scheme) → IsBacked sha256 scheme watch.name.now (expected (wanted watch.key.now) changes) kept
-    → IsWatched sha256 scheme watch.name.now (wanted watch.key.now) changes kept)
-watched-state law policy state trust kept None changes alarms marks taken = tt
-watched-state law policy state trust kept (Some watch) changes alarms marks taken =
-    λ scheme backed. law sha256 scheme (client_with policy kept (Some watch) changes alarms taken.saved_trust taken.saved_marks) watch refl taken.is.formed backed
+pub watched-state : WatchedLaw → (policy state trust marks : List ℕ) (stored : List StoredEntry) (watch : Option Watch) (changes : List Change) (alarms : List Alarm)
+    → IsStateOf sha256 policy (client_state policy stored watch changes alarms trust marks) state
+    → IfSome watch (λ watch. (scheme : Scheme) → IsBacked sha256 scheme watch.name.now (expected (wanted watch.key.now) changes) stored
+    → IsWatched sha256 scheme watch.name.now (wanted watch.key.now) changes stored)
+watched-state law policy state trust marks stored None changes alarms is = tt
+watched-state law policy state trust marks stored (Some watch) changes alarms is =
+    λ scheme backed. law sha256 scheme (client_with policy stored (Some watch) changes alarms trust marks) watch refl is.formed backed
 
--- the number of kept epochs that are copied
-pub valid-count : (chunks : List (List ℕ)) (kept : List Kept) → kept ≡ map kept_from chunks → length kept ≡ length chunks
-valid-count chunks kept is = ap length is ∙ length-map chunks kept_from
+-- the number of stored epochs that are copied
+pub valid-count : (chunks : List (List ℕ)) (stored : List StoredEntry) → stored ≡ map stored_from chunks → length stored ≡ length chunks
+valid-count chunks stored is = ap length is ∙ length-map chunks stored_from
 
 -- it is the status of no state
 not_chain : (fault : StateFault) → state_status fault ≡ 101 → ⊥
@@ -197,43 +197,44 @@ not_chain StateDamaged is = omega (arith, is)
 not_chain StatePolicy is = omega (arith, is)
 not_chain StateForm is = omega (arith, is)
 
--- a status of 101 says that the kept epochs are no chain
-pub unread-chain : (policy state verdicts : List ℕ) (room : Room) (status : ℕ) → status ≡ 101 → IsUnread policy state verdicts room status
-    → (saved : SavedState) × IsStateOf sha256 policy saved state × ((verdict : List ℕ → List ℕ → Bool) → AreToldBy verdict saved.kept verdicts → IsNoChain verdict policy saved.kept)
-unread-chain policy state verdicts room status is (inl (fault, is_fault, none)) = absurd (not_chain fault (sym is_fault ∙ is))
-unread-chain policy state verdicts room status is (inr (inl full)) = absurd (omega (arith, is, full.0))
-unread-chain policy state verdicts room status is (inr (inr bad)) =
-    (bad.1.0, bad.1.1, λ verdict told. no-chain verdict policy bad.1.0.kept verdicts told bad.1.3)
+-- a status of 101 says that the stored epochs are no chain
+pub unread-chain : (core : RawCore) (state verdicts : List ℕ) (status : ℕ) → status ≡ 101 → IsUnread core state verdicts status
+    → (saved : SavedState) × IsStateOf sha256 core.rules.policy.bytes saved state
+    × ((verdict : List ℕ → List ℕ → Bool) → AreReportedBy verdict saved.stored verdicts → IsNoChain verdict core.rules.policy.bytes saved.stored)
+unread-chain core state verdicts status is (inl (fault, is_fault, none)) = absurd (not_chain fault (sym is_fault ∙ is))
+unread-chain core state verdicts status is (inr (inl full)) = absurd (omega (arith, is, full.0))
+unread-chain core state verdicts status is (inr (inr bad)) =
+    (bad.1.0, bad.1.1, λ verdict reported. no-chain verdict core.rules.policy.bytes bad.1.0.stored verdicts reported bad.1.3)
 
 -- ---- a state that is read, or not
 
-module _ (policy state verdicts : List ℕ) (room : Room) (parts : State) (saved : SavedState) (is : IsStateOf sha256 policy saved state) (says : Says parts saved) where
-  pub no-room : ¬ HasRoomFor room parts → IsUnread policy state verdicts room 137
+module _ (core : RawCore) (state verdicts : List ℕ) (parts : State) (saved : SavedState) (is : IsStateOf sha256 core.rules.policy.bytes saved state) (says : Says parts saved) where
+  pub no-room : ¬ HasRoomFor core parts → IsUnread core state verdicts 137
   no-room full = inr (inl (
     refl,
     (
       saved,
       is,
       λ has. full (record {
-        kept = omega (arith, has.kept, kept-count parts saved says);
+        stored = omega (arith, has.stored, stored-count parts saved says);
         changes = omega (arith, has.changes, change-count parts.watch saved.watch says.watch);
         alarms = omega (arith, has.alarms, alarm-count parts saved says);
       }),
     ),
   ))
 
-  pub refused-chain : HasRoomFor room parts → IsRefusedChain policy (map kept_from parts.kept.now) verdicts → IsUnread policy state verdicts room 101
+  pub refused-chain : HasRoomFor core parts → IsRefusedChain core.rules.policy.bytes (map stored_from parts.stored.now) verdicts → IsUnread core state verdicts 101
   refused-chain few refused = inr (inr (
     refl,
     (
       saved,
       is,
       record {
-        kept = omega (arith, few.kept, kept-count parts saved says);
+        stored = omega (arith, few.stored, stored-count parts saved says);
         changes = omega (arith, few.changes, change-count parts.watch saved.watch says.watch);
         alarms = omega (arith, few.alarms, alarm-count parts saved says);
       },
-      subst (λ (l : List Kept). IsRefusedChain policy l verdicts) says.kept refused,
+      subst (λ (l : List StoredEntry). IsRefusedChain core.rules.policy.bytes l verdicts) says.stored refused,
     ),
   ))
 

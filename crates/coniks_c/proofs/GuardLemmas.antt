@@ -1,14 +1,14 @@
 -- Records of a guard, as C has them.
 use Rattle.std.proofs.Common.{◌≡◌, ◌≢◌, ℕ, List, Bool, refl, sym, ap, subst, ◌∙◌}
-use Rattle.coniks_chain.specs.Guard.{Guarded, Abandons, Asks, Signs, abandoned_after, bodies_in, held_in, made, with_abandoned}
+use Rattle.coniks_chain.specs.Guard.{Guarded, Abandons, Asks, Signs, abandoned_after, bodies_in, guard_state_in, made, with_abandoned}
 use Rattle.coniks_chain.specs.declared.entry.Body.{Body}
 use Rattle.coniks_chain.specs.declared.entry.Signature.{Signature}
 use Rattle.coniks_chain.specs.declared.guard.Effect.{Effect}
 use Rattle.coniks_chain.specs.declared.guard.Effect.TheVariants.{Added, Narrowed, Same}
 use Rattle.coniks_chain.specs.declared.guard.Next.{Next}
-use Rattle.coniks_chain.specs.declared.guard_record.Held.{Held}
+use Rattle.coniks_chain.specs.declared.guard_record.GuardState.{GuardState}
 use Rattle.coniks_chain.specs.declared.guard_record.RawBody.{RawBody}
-use Rattle.coniks_chain.specs.declared.guard_record.RawHeld.{RawHeld}
+use Rattle.coniks_chain.specs.declared.guard_record.RawGuardState.{RawGuardState}
 use Rattle.coniks_c.specs.Guarding.{record_in}
 
 -- a step that does neither to the abandoned bodies leaves them as they are
@@ -25,27 +25,27 @@ pub changes : (e f : Effect) (olds news : List RawBody) (b : Body) → e ≡ f �
 changes e f olds news b is change = change ∙ ap (λ x. abandoned_after x (bodies_in olds) b) (sym is)
 
 -- the record that a step makes, as it is written
-module _ (next : Next) (held : Held) (raw new : RawHeld) (olds news : List RawBody) (b body : Body)
-    (is_held : held ≡ held_in raw) (is_body : b ≡ body) (is_new : held_in new ≡ next.held) (are : bodies_in news ≡ abandoned_after next.effect (bodies_in olds) b) where
+module _ (next : Next) (guard_state : GuardState) (raw new : RawGuardState) (olds news : List RawBody) (b body : Body)
+    (is_guard_state : guard_state ≡ guard_state_in raw) (is_body : b ≡ body) (is_new : guard_state_in new ≡ next.guard_state) (are : bodies_in news ≡ abandoned_after next.effect (bodies_in olds) b) where
   written : made next (bodies_in olds) b ≡ record_in new news
-  written = ap (λ h. with_abandoned h (abandoned_after next.effect (bodies_in olds) b)) (sym is_new) ∙ ap (with_abandoned (held_in new)) (sym are)
+  written = ap (λ h. with_abandoned h (abandoned_after next.effect (bodies_in olds) b)) (sym is_new) ∙ ap (with_abandoned (guard_state_in new)) (sym are)
 
-  pub asked : (hash : List ℕ → List ℕ) (may : Bool) → Asks hash may (with_abandoned held (bodies_in olds)) b (made next (bodies_in olds) b)
+  pub asked : (hash : List ℕ → List ℕ) (may : Bool) → Asks hash may (with_abandoned guard_state (bodies_in olds)) b (made next (bodies_in olds) b)
       → Asks hash may (record_in raw olds) body (record_in new news)
   asked hash may asks =
-      subst (λ (h : Held). Asks hash may (with_abandoned h (bodies_in olds)) body (record_in new news)) is_held
-      (subst (λ (x : Body). Asks hash may (with_abandoned held (bodies_in olds)) x (record_in new news)) is_body
-      (subst (λ (r : Guarded). Asks hash may (with_abandoned held (bodies_in olds)) b r) written asks))
+      subst (λ (h : GuardState). Asks hash may (with_abandoned h (bodies_in olds)) body (record_in new news)) is_guard_state
+      (subst (λ (x : Body). Asks hash may (with_abandoned guard_state (bodies_in olds)) x (record_in new news)) is_body
+      (subst (λ (r : Guarded). Asks hash may (with_abandoned guard_state (bodies_in olds)) b r) written asks))
 
-  pub signed : (replaces : Bool) (signature : Signature) → Signs (with_abandoned held (bodies_in olds)) replaces b signature (made next (bodies_in olds) b)
+  pub signed : (replaces : Bool) (signature : Signature) → Signs (with_abandoned guard_state (bodies_in olds)) replaces b signature (made next (bodies_in olds) b)
       → Signs (record_in raw olds) replaces body signature (record_in new news)
   signed replaces signature signs =
-      subst (λ (h : Held). Signs (with_abandoned h (bodies_in olds)) replaces body signature (record_in new news)) is_held
-      (subst (λ (x : Body). Signs (with_abandoned held (bodies_in olds)) replaces x signature (record_in new news)) is_body
-      (subst (λ (r : Guarded). Signs (with_abandoned held (bodies_in olds)) replaces b signature r) written signs))
+      subst (λ (h : GuardState). Signs (with_abandoned h (bodies_in olds)) replaces body signature (record_in new news)) is_guard_state
+      (subst (λ (x : Body). Signs (with_abandoned guard_state (bodies_in olds)) replaces x signature (record_in new news)) is_body
+      (subst (λ (r : Guarded). Signs (with_abandoned guard_state (bodies_in olds)) replaces b signature r) written signs))
 
-  pub abandoned : Abandons (with_abandoned held (bodies_in olds)) b (made next (bodies_in olds) b) → Abandons (record_in raw olds) body (record_in new news)
+  pub abandoned : Abandons (with_abandoned guard_state (bodies_in olds)) b (made next (bodies_in olds) b) → Abandons (record_in raw olds) body (record_in new news)
   abandoned abandons =
-      subst (λ (h : Held). Abandons (with_abandoned h (bodies_in olds)) body (record_in new news)) is_held
-      (subst (λ (x : Body). Abandons (with_abandoned held (bodies_in olds)) x (record_in new news)) is_body
-      (subst (λ (r : Guarded). Abandons (with_abandoned held (bodies_in olds)) b r) written abandons))
+      subst (λ (h : GuardState). Abandons (with_abandoned h (bodies_in olds)) body (record_in new news)) is_guard_state
+      (subst (λ (x : Body). Abandons (with_abandoned guard_state (bodies_in olds)) x (record_in new news)) is_body
+      (subst (λ (r : Guarded). Abandons (with_abandoned guard_state (bodies_in olds)) b r) written abandons))

@@ -1,7 +1,8 @@
+mod CoreLemmas
 mod KeyLemmas
 mod VerdictLemmas
 mod StatusLemmas
-mod ToldLemmas
+mod ReportedLemmas
 mod QuorumLemmas
 mod FeedLemmas
 mod StartLemmas

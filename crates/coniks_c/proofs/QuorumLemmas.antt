@@ -3,7 +3,7 @@ use Rattle.std.proofs.Common.{◌≡◌, ◌≤◌, ◌+◌, ◌-◌, ◌++◌, 
 use Rattle.std.specs.List.{copy_within}
 use Rattle.std.proofs.Math.Seq.{drop-append_seam, take-append_seam}
 use Rattle.std.proofs.lemmas.List.{drop-take, length-take-le, take-take}
-use Rattle.coniks_client.specs.declared.kept.Kept.{Kept}
+use Rattle.coniks_client.specs.declared.stored.StoredEntry.{StoredEntry}
 use Rattle.coniks_quorum.specs.Alarms.{alarms_of}
 use Rattle.coniks_quorum.specs.declared.reporting.Report.{Report}
 use Rattle.coniks_quorum.specs.declared.reporting.Report.TheVariants.{Changed, Missing, Lost, Unwatched, Unconfirmed, Good}
@@ -30,18 +30,18 @@ moved {X} old new from count within room is =
     }
 
 -- as many as the first ones are
-pub as_many : (kept : List Kept) (n epochs : ℕ) → n ≤ length kept → epochs ≡ length (take n kept) → take n kept ≡ take epochs kept
-as_many kept n epochs le size = ap (λ (k : ℕ). take k kept) (sym (size ∙ length-take-le n kept le))
+pub as_many : (stored : List StoredEntry) (n epochs : ℕ) → n ≤ length stored → epochs ≡ length (take n stored) → take n stored ≡ take epochs stored
+as_many stored n epochs le size = ap (λ (k : ℕ). take k stored) (sym (size ∙ length-take-le n stored le))
 
 -- the alarms of a watched name
-pub watched-left : (watch : RawWatch) (dropped : List Kept) → watch.is_watched ≡ 1 → left_alarms watch dropped ≡ alarms_of watch.since dropped
+pub watched-left : (watch : RawWatch) (dropped : List StoredEntry) → watch.is_watched ≡ 1 → left_alarms watch dropped ≡ alarms_of watch.since dropped
 watched-left watch dropped watched = ap (λ (n : ℕ). if n == 1 then alarms_of watch.since dropped else []) watched
 
 -- the first of the first elements
-pub first_of : (kept : List Kept) (n count epochs : ℕ) → n ≤ count → count ≤ length kept → epochs ≡ length (take n kept) → take n (take count kept) ≡ take epochs kept
-first_of kept n count epochs le room size =
-    let number : n ≡ epochs = sym (size ∙ length-take-le n kept (omega arith)) in
-    take-take n count kept le ∙ ap (λ (k : ℕ). take k kept) number
+pub first_of : (stored : List StoredEntry) (n count epochs : ℕ) → n ≤ count → count ≤ length stored → epochs ≡ length (take n stored) → take n (take count stored) ≡ take epochs stored
+first_of stored n count epochs le room size =
+    let number : n ≡ epochs = sym (size ∙ length-take-le n stored (omega arith)) in
+    take-take n count stored le ∙ ap (λ (k : ℕ). take k stored) number
 
 -- 6 is the number of a good report only
 module _ (P : ℕ → ℕ → Type 0) where

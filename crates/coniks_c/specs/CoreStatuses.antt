@@ -116,11 +116,11 @@ abbrev pub reliance_status : Reliance → ℕ
 reliance_status ReliedOn = good
 reliance_status Unconfirmed = misuse_not_confirmed
 
--- nothing more is to be said
+-- nothing more is to be reported
 abbrev pub no_more : RawWhy
 no_more = record { status = 0; kind = 0; mine = 0 }
 
--- the kept entry that convicts with the refused one, and the status of an entry that does not follow, else 0
+-- the stored entry that convicts with the refused one, and the status of an entry that does not follow, else 0
 abbrev pub convicted : ℕ → Evidence → RawWhy
 convicted status evidence = record { status = status; kind = number_of_kind evidence.kind; mine = evidence.place }
 

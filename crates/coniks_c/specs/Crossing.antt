@@ -40,5 +40,5 @@ body_in body = record {
 }
 
 -- the function's result for the entry's signature is good if and only if the caller's number is 1
-abbrev pub IsToldBy : (Octets → Octets → Bool) → Entry → ℕ → Type 0
-IsToldBy verdict entry told = verdict (body_bytes entry.body) entry.signature.0 ≡ (told == 1)
+abbrev pub IsReportedBy : (Octets → Octets → Bool) → Entry → ℕ → Type 0
+IsReportedBy verdict entry reported = verdict (body_bytes entry.body) entry.signature.0 ≡ (reported == 1)

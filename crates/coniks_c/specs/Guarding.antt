@@ -1,7 +1,7 @@
 -- A guard's record as C has it, and the numbers that its calls return.
 use Rattle.std.specs.Prelude.{◌+◌, ℕ, List}
 use Rattle.coniks_chain.specs.declared.entry.Signature.{Signature}
-use Rattle.coniks_chain.specs.Guard.{Guarded, ask_place, bodies_in, held_in, with_abandoned}
+use Rattle.coniks_chain.specs.Guard.{Guarded, ask_place, bodies_in, guard_state_in, with_abandoned}
 use Rattle.coniks_chain.specs.declared.guard.AskFault.{AskFault}
 use Rattle.coniks_chain.specs.declared.guard.SignFault.{SignFault}
 use Rattle.coniks_chain.specs.declared.guard.SignFault.TheVariants as sign
@@ -12,12 +12,12 @@ use Rattle.coniks_chain.specs.declared.guard.AdoptFault.TheVariants.{OtherBodies
 use Rattle.coniks_chain.specs.declared.guard_record.Answer.{Answer}
 use Rattle.coniks_chain.specs.declared.guard_record.Answer.TheVariants.{Abandoned, Signed, Unsettled}
 use Rattle.coniks_chain.specs.declared.guard_record.RawBody.{RawBody}
-use Rattle.coniks_chain.specs.declared.guard_record.RawHeld.{RawHeld}
+use Rattle.coniks_chain.specs.declared.guard_record.RawGuardState.{RawGuardState}
 use Rattle.coniks_c.specs.Numbers.{guard_malformed, guard_may_be_signed, guard_no_entry, guard_not_asked, guard_other_bodies, guard_other_open, guard_record_old}
 
 -- the record whose abandoned bodies are these
-abbrev pub record_in : RawHeld → List RawBody → Guarded
-record_in raw abandoned = with_abandoned (held_in raw) (bodies_in abandoned)
+abbrev pub record_in : RawGuardState → List RawBody → Guarded
+record_in raw abandoned = with_abandoned (guard_state_in raw) (bodies_in abandoned)
 
 -- a body that the key must not sign
 abbrev pub ask_status : AskFault → ℕ

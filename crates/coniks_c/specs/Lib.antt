@@ -4,9 +4,10 @@ pub mod Numbers
 pub mod Statuses
 pub mod Texts
 pub mod Watched
+pub mod Core
 pub mod CoreFeed
 pub mod CoreStatuses
-pub mod CoreTold
+pub mod CoreReported
 pub mod CoreQuorum
 pub mod CoreStates
 pub mod Guarding

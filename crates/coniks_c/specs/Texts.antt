@@ -1,4 +1,4 @@
--- What is said of each refusal, in English and ASCII.
+-- What is stated about each refusal, in English and ASCII.
 use Rattle.std.specs.Prelude.{[], ◌∷◌, ◌++◌, codes, take, drop, length}
 use Rattle.coniks_proof.specs.Octets.{Octets}
 use Rattle.coniks_proof.specs.declared.checker.CheckFault.{CheckFault}

@@ -6,7 +6,7 @@ ghost use Rattle.coniks_proof.specs.Sha256.{sha256};
 ghost use Rattle.coniks_chain.specs.Chain.{Follows, IsFirstEntryFault, auditor_after, place_of};
 ghost use Rattle.coniks_chain.specs.Entries.{entry_from};
 ghost use Rattle.coniks_chain.specs.declared.auditor.AuditFault.{AuditFault as Fault};
-ghost use Rattle.coniks_c.specs.Crossing.{IsToldBy, IsZero, before_in};
+ghost use Rattle.coniks_c.specs.Crossing.{IsReportedBy, IsZero, before_in};
 ghost use Rattle.coniks_c.specs.Statuses.{IsAuditStatus};
 
 use crate::entries::entry_of;
@@ -18,13 +18,13 @@ use coniks_proof::Sha256Hash;
 
 /// The verdict on a signature that the caller came to.
 #[derive(Clone, Copy, Drop)]
-pub(crate) struct Told {
+pub(crate) struct Reported {
     /// Returns whether a signature is valid: 1 if it is.
     pub signature: u32,
 }
 
-impl Verify for Told {
-    ghost verdict_of = { λ told body signature. told.signature == 1 };
+impl Verify for Reported {
+    ghost verdict_of = { λ reported body signature. reported.signature == 1 };
 
     fn verdict(&self, _body: &[u8; BODY_BYTES], _signature: &Signature) -> bool {
         self.signature == 1
@@ -53,11 +53,11 @@ pub extern "C" fn coniks_auditor_feed(
 ) -> u32
     ensures whole { result ≢ 48 → length entry.now ≡ ENTRY_BYTES }
     ensures follows { result ≡ 0 → (verdict : Octets → Octets → Bool)
-        → IsToldBy verdict (entry_from entry.now) signature_verdict → Follows verdict (before_in state.old) (entry_from entry.now) }
-    ensures kept { result ≡ 0 → before_in state.new ≡ Some (auditor_after sha256 (entry_from entry.now)) }
+        → IsReportedBy verdict (entry_from entry.now) signature_verdict → Follows verdict (before_in state.old) (entry_from entry.now) }
+    ensures retained { result ≡ 0 → before_in state.new ≡ Some (auditor_after sha256 (entry_from entry.now)) }
     ensures unused { result ≡ 0 → state.new.unused ≡ replicate 7 0 }
     ensures refused { (fault : Fault) → result ≡ place_of fault + 33 → (verdict : Octets → Octets → Bool)
-        → IsToldBy verdict (entry_from entry.now) signature_verdict → IsFirstEntryFault verdict (before_in state.old) (entry_from entry.now) fault }
+        → IsReportedBy verdict (entry_from entry.now) signature_verdict → IsFirstEntryFault verdict (before_in state.old) (entry_from entry.now) fault }
     ensures other { result ≡ 48 → length entry.now ≢ ENTRY_BYTES }
     ensures known { (result ≡ 0) ⊎ IsAuditStatus result ⊎ (result ≡ 48) }
     ensures unchanged { result ≢ 0 → state.new ≡ state.old }
@@ -65,11 +65,11 @@ pub extern "C" fn coniks_auditor_feed(
     let Some(entry) = entry_of(entry) else {
         return numbers::ENTRY_LENGTH;
     };
-    let told = Told {
+    let reported = Reported {
         signature: signature_verdict,
     };
     let mut auditor = Auditor::resume(Sha256Hash, state.state());
-    if let Err(fault) = auditor.feed(&entry, &told) {
+    if let Err(fault) = auditor.feed(&entry, &reported) {
         return audit_status(fault);
     }
     if let Some(before) = auditor.state() {

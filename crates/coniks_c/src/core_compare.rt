@@ -9,16 +9,18 @@ ghost use Rattle.coniks_client.specs.Comparing.{Compares};
 ghost use Rattle.coniks_client.specs.Feeding.{ConvictsNone, IsFirstConvicting, IsSigned, IsUnsigned};
 ghost use Rattle.coniks_client.specs.declared.comparing.Comparison.{Comparison as Outcome};
 ghost use Rattle.coniks_client.specs.declared.feeding.EntryFault.{EntryFault as Fault};
+ghost use Rattle.coniks_c.specs.Core.{stored_in};
 ghost use Rattle.coniks_c.specs.CoreStatuses.{convicted, entry_status};
-ghost use Rattle.coniks_c.specs.CoreTold.{comparison_number, place_of_equal};
-ghost use Rattle.coniks_c.specs.Crossing.{IsToldBy};
+ghost use Rattle.coniks_c.specs.CoreReported.{comparison_number, place_of_equal};
+ghost use Rattle.coniks_c.specs.Crossing.{IsReportedBy};
 
-use crate::auditor::Told;
+use crate::auditor::Reported;
+use crate::core_client::RawCore;
 use crate::core_status::entry_status;
-use crate::core_values::RawWhy;
+use crate::core_values::{RawReceived, RawWhy};
 use crate::numbers;
 use crate::values::Bytes32;
-use coniks_client::{Comparison, Kept, compare, evidence_of, signed};
+use coniks_client::{Comparison, compare, evidence_of, signed};
 use coniks_proof::{Digest, Head, Sha256Hash};
 
 /// Compares a head, the epoch and the link of an entry, with a client's chain.
@@ -27,19 +29,19 @@ use coniks_proof::{Digest, Head, Sha256Hash};
 /// it keeps none that does.
 #[unsafe(no_mangle)]
 pub extern "C" fn coniks_core_compare(
-    kept: &[Kept],
+    core: &RawCore<'_, '_>,
     epoch: u64,
     link: &Bytes32,
     place: &mut usize,
 ) -> u32
     ensures compares { (outcome : Outcome) × (result ≡ comparison_number outcome)
-        × Compares sha256 kept.now (record { epoch = epoch; link = record { 0 = link.now.bytes } }) outcome × (place.new ≡ place_of_equal place.old outcome) }
+        × Compares sha256 (stored_in core.now) (record { epoch = epoch; link = record { 0 = link.now.bytes } }) outcome × (place.new ≡ place_of_equal place.old outcome) }
 {
     let head = Head {
         epoch,
         link: Digest(link.bytes),
     };
-    match compare(&Sha256Hash, kept, &head) {
+    match compare(&Sha256Hash, core.stored(), &head) {
         Comparison::Equal(found) => {
             *place = found;
             1
@@ -49,33 +51,31 @@ pub extern "C" fn coniks_core_compare(
     }
 }
 
-/// Finds what convicts with an entry of somebody else: the first kept entry that is evidence with it.
+/// Finds what convicts with an entry of somebody else: the first stored entry that is evidence with it.
 ///
-/// Pass 1 as the verification result if the entry's signature is valid. Returns 0 if there is one, and writes `why`. Returns 48 or 40 for an
-/// entry that is none, and 50 if no kept one convicts with it, and writes nothing then. An entry that no chain has convicts alone: see
-/// `coniks_convicts`.
+/// Returns 0 if there is one, and writes `why`. Returns 48 or 40 for an entry that is none, and 50 if no stored one convicts with it, and
+/// writes nothing then. The time is not read. An entry that no chain has convicts alone: see `coniks_convicts`.
 #[unsafe(no_mangle)]
 pub extern "C" fn coniks_core_evidence(
-    kept: &[Kept],
-    entry: &[u8],
-    signature_verdict: u32,
+    core: &RawCore<'_, '_>,
+    received: &RawReceived<'_>,
     why: &mut RawWhy,
 ) -> u32
-    ensures found { result ≡ 0 → (evidence : Found) × IsFirstConvicting kept.now (entry_from entry.now) evidence × (why.new ≡ convicted 0 evidence) }
-    ensures signed { (result ≡ 0) ⊎ (result ≡ 50) → (verdict : Octets → Octets → Bool) → IsToldBy verdict (entry_from entry.now) signature_verdict → IsSigned verdict entry.now }
-    ensures none { result ≡ 50 → ConvictsNone kept.now (entry_from entry.now) }
-    ensures refused { result ≢ 0 → result ≢ 50 → (verdict : Octets → Octets → Bool) → IsToldBy verdict (entry_from entry.now) signature_verdict
-        → (fault : Fault) × (result ≡ entry_status fault) × IsUnsigned verdict entry.now fault }
+    ensures found { result ≡ 0 → (evidence : Found) × IsFirstConvicting (stored_in core.now) (entry_from received.now.entry.now) evidence × (why.new ≡ convicted 0 evidence) }
+    ensures signed { (result ≡ 0) ⊎ (result ≡ 50) → (verdict : Octets → Octets → Bool) → IsReportedBy verdict (entry_from received.now.entry.now) received.now.signature → IsSigned verdict received.now.entry.now }
+    ensures none { result ≡ 50 → ConvictsNone (stored_in core.now) (entry_from received.now.entry.now) }
+    ensures refused { result ≢ 0 → result ≢ 50 → (verdict : Octets → Octets → Bool) → IsReportedBy verdict (entry_from received.now.entry.now) received.now.signature
+        → (fault : Fault) × (result ≡ entry_status fault) × IsUnsigned verdict received.now.entry.now fault }
     ensures unwritten { result ≢ 0 → why.new ≡ why.old }
 {
-    let told = Told {
-        signature: signature_verdict,
+    let reported = Reported {
+        signature: received.signature,
     };
-    let entry = match signed(entry, &told) {
+    let entry = match signed(received.entry, &reported) {
         Ok(entry) => entry,
         Err(fault) => return entry_status(&fault),
     };
-    match evidence_of(kept, &entry) {
+    match evidence_of(core.stored(), &entry) {
         Some(evidence) => {
             *why = RawWhy::convicted(0, &evidence);
             numbers::GOOD

@@ -1,65 +1,70 @@
 //! A client's chain, entry by entry, in an array of the caller.
 
-ghost use Rattle.std.specs.Prelude.{◌≡◌, ◌≢◌, ◌⊎◌, ◌<◌, ◌≤◌, ◌↔◌, IsTrue, List, Bool, Option, length, take};
+ghost use Rattle.std.specs.Prelude.{◌≡◌, ◌≢◌, ◌⊎◌, ◌<◌, ◌≤◌, ◌↔◌, IsTrue, List, Bool, Option, length};
 ghost use Rattle.std.proofs.Math.ListN.{set};
 ghost use Rattle.coniks_proof.specs.Octets.{Octets};
 ghost use Rattle.coniks_proof.specs.Sha256.{sha256};
 ghost use Rattle.coniks_chain.specs.Entries.{entry_from};
 ghost use Rattle.coniks_client.specs.Feeding.{IsRefusedFeed};
-ghost use Rattle.coniks_client.specs.Kept.{IsChain};
+ghost use Rattle.coniks_client.specs.StoredEntry.{IsChain};
 ghost use Rattle.coniks_client.specs.Owner.{IsWatched, Scheme};
 ghost use Rattle.coniks_client.specs.Steps.{IsAccepted};
 ghost use Rattle.coniks_client.specs.declared.changes.Change.{Change as ChangeOne};
 ghost use Rattle.coniks_client.specs.declared.feeding.FeedFault.{FeedFault as Fault};
-ghost use Rattle.coniks_client.specs.declared.kept.Kept.{Kept as KeptOne};
+ghost use Rattle.coniks_client.specs.declared.stored.StoredEntry.{StoredEntry as StoredOne};
 ghost use Rattle.coniks_client.specs.declared.steps.Accepted.{Accepted as Outcome};
 ghost use Rattle.coniks_quorum.specs.Auditors.{Auditor};
 ghost use Rattle.coniks_quorum.specs.Clients.{IsClient};
+ghost use Rattle.coniks_c.specs.Core.{stored_in};
 ghost use Rattle.coniks_c.specs.CoreFeed.{AreMarksWith, HasPlace, IsStored};
 ghost use Rattle.coniks_c.specs.CoreStatuses.{feed_status, why_of_feed};
-ghost use Rattle.coniks_c.specs.CoreTold.{watch_in};
-ghost use Rattle.coniks_c.specs.Crossing.{IsToldBy};
+ghost use Rattle.coniks_c.specs.CoreReported.{watch_in};
+ghost use Rattle.coniks_c.specs.Crossing.{IsReportedBy};
 
-use crate::auditor::Told;
+use crate::auditor::Reported;
+use crate::core_client::{RawCore, RawStored};
 use crate::core_status::feed_status;
-use crate::core_values::{RawWatch, RawWhy};
+use crate::core_values::{RawReceived, RawWhy};
 use crate::numbers;
-use crate::values::Bytes32;
-use coniks_client::{Accepted, Fed, Kept, feed};
+use coniks_client::{Accepted, Fed, StoredEntry, feed};
 use coniks_proof::Sha256Hash;
 use coniks_quorum::laws;
 use coniks_quorum::marks::unmark;
 
-/// Writes a kept epoch.
-fn put(kept: &mut [Kept], place: usize, mine: &Kept)
-    requires { place < length kept.old }
-    ensures { kept.new ≡ set kept.old place mine.now }
+/// Writes a stored epoch.
+fn put(stored: &mut [StoredEntry], place: usize, mine: &StoredEntry)
+    requires { place < length stored.old }
+    ensures { stored.new ≡ set stored.old place mine.now }
 {
-    kept[place] = *mine;
+    stored[place] = *mine;
 }
 
-/// Returns whether an accepted entry has a place.
-fn has_place(count: usize, room: usize, accepted: &Accepted) -> bool
-    ensures { IsTrue result ↔ HasPlace count room accepted.now }
+/// Returns whether an accepted entry has a place among the stored epochs.
+fn has_place(core: &RawCore<'_, '_>, accepted: &Accepted) -> bool
+    ensures { IsTrue result ↔ HasPlace core.now.stored accepted.now }
 {
     match accepted {
-        Accepted::Next(_) => count < room,
-        Accepted::Again(_) => 0 < count,
+        Accepted::Next(_) => core.stored.count < core.stored.items.len(),
+        Accepted::Again(_) => 0 < core.stored.count,
     }
 }
 
-/// Keeps an accepted entry: the next one after the others, the latest one, signed again, in its place.
-fn store(kept: &mut [Kept], count: &mut usize, accepted: &Accepted)
-    requires within { count.old ≤ length kept.old }
-    requires place { HasPlace count.old (length kept.old) accepted.now }
-    ensures { IsStored kept.old kept.new count.old count.new accepted.now }
+/// Stores an accepted entry: the next one after the others, the latest one, signed again, in its place.
+fn store(stored: &mut RawStored<'_>, accepted: &Accepted)
+    requires within { stored.old.count ≤ length stored.old.items.now }
+    requires place { HasPlace stored.old accepted.now }
+    ensures { IsStored stored.old stored.new accepted.now }
 {
     match accepted {
         Accepted::Next(mine) => {
-            put(kept, *count, mine);
-            *count += 1;
+            let count = stored.count;
+            put(stored.items, count, mine);
+            stored.count = count + 1;
         }
-        Accepted::Again(mine) => put(kept, *count - 1, mine),
+        Accepted::Again(mine) => {
+            let latest = stored.count - 1;
+            put(stored.items, latest, mine);
+        }
     }
 }
 
@@ -73,60 +78,56 @@ fn reset_marks(marks: &mut [u64], accepted: &Accepted)
     }
 }
 
-/// Accepts an entry: one that continues a client's chain is kept after the first `count` kept epochs. The latest one with another signature
-/// takes its place, and each mark at its epoch becomes 0.
+/// Accepts an entry: one that continues a client's chain is stored after the others. The latest one with another signature takes its
+/// place, and each mark at its epoch becomes 0.
 ///
-/// Pass 1 as the verification result if the entry's signature is valid for its first 145 bytes. Returns 0, or the first error in this
-/// order: 48, 40, 80, 81, 82, 33 to 39. For these `why` is written. Returns 137 if there is no room for one epoch more, or the count is
-/// greater than the array's length. After an error nothing else is written.
+/// Returns 0, or the first error in this order: 48, 40, 80, 81, 82, 33 to 39. For these `why` is written. Returns 137 if there is no room
+/// for one epoch more, or the count is greater than the room. After an error nothing else is written.
 #[unsafe(no_mangle)]
 pub extern "C" fn coniks_core_feed(
-    policy: &Bytes32,
-    kept: &mut [Kept],
-    count: &mut usize,
-    watch: &RawWatch<'_>,
-    marks: &mut [u64],
-    entry: &[u8],
-    signature_verdict: u32,
-    time: u64,
+    core: &mut RawCore<'_, '_>,
+    received: &RawReceived<'_>,
     why: &mut RawWhy,
 ) -> u32
-    ensures fed { result ≡ 0 → (verdict : Octets → Octets → Bool) → IsToldBy verdict (entry_from entry.now) signature_verdict
-        → (accepted : Outcome) × IsAccepted sha256 verdict policy.now.bytes (take count.old kept.old) (watch_in watch.now) entry.now time accepted
-        × IsStored kept.old kept.new count.old count.new accepted × AreMarksWith marks.old marks.new accepted }
-    ensures refused { result ≢ 0 → result ≢ 137 → (verdict : Octets → Octets → Bool) → IsToldBy verdict (entry_from entry.now) signature_verdict
-        → (fault : Fault) × (result ≡ feed_status fault) × IsRefusedFeed sha256 verdict policy.now.bytes (take count.old kept.old) entry.now fault × (why.new ≡ why_of_feed fault) }
-    ensures full { result ≡ 137 → length kept.old ≤ count.old }
-    ensures room { length kept.old < count.old → result ≡ 137 }
-    ensures unchanged { result ≢ 0 → (kept.new ≡ kept.old) × (count.new ≡ count.old) × (marks.new ≡ marks.old) }
+    ensures fed { result ≡ 0 → (verdict : Octets → Octets → Bool) → IsReportedBy verdict (entry_from received.now.entry.now) received.now.signature
+        → (accepted : Outcome) × IsAccepted sha256 verdict core.old.rules.policy.bytes (stored_in core.old) (watch_in core.old.watch) received.now.entry.now received.now.time accepted
+        × IsStored core.old.stored core.new.stored accepted × AreMarksWith core.old.marks.items.now core.new.marks.items.now accepted }
+    ensures refused { result ≢ 0 → result ≢ 137 → (verdict : Octets → Octets → Bool) → IsReportedBy verdict (entry_from received.now.entry.now) received.now.signature
+        → (fault : Fault) × (result ≡ feed_status fault) × IsRefusedFeed sha256 verdict core.old.rules.policy.bytes (stored_in core.old) received.now.entry.now fault × (why.new ≡ why_of_feed fault) }
+    ensures full { result ≡ 137 → length core.old.stored.items.now ≤ core.old.stored.count }
+    ensures room { length core.old.stored.items.now < core.old.stored.count → result ≡ 137 }
+    ensures others { core.new ≡ record core.old { stored = core.new.stored; marks = core.new.marks } }
+    ensures unchanged { result ≢ 0 → core.new ≡ core.old }
     ensures unwritten { (result ≡ 0) ⊎ (result ≡ 137) → why.new ≡ why.old }
 
-    // The kept epochs are a chain again, each that shows what was expected has a proof behind it, and right marks stay right.
-    ensures chain { result ≡ 0 → IsChain sha256 (take count.old kept.old) → IsChain sha256 (take count.new kept.new) }
+    // The stored epochs are a chain again, each that shows what was expected has a proof behind it, and right marks stay right.
+    ensures chain { result ≡ 0 → IsChain sha256 (stored_in core.old) → IsChain sha256 (stored_in core.new) }
     ensures watched { result ≡ 0 → (scheme : Scheme) (name : Octets) (key : Option Octets) (changes : List ChangeOne)
-        → IsWatched sha256 scheme name key changes (take count.old kept.old) → IsWatched sha256 scheme name key changes (take count.new kept.new) }
-    ensures client { result ≡ 0 → (auditors : List Auditor) (before : List KeptOne) → IsClient sha256 auditors before (take count.old kept.old) marks.old
-        → IsClient sha256 auditors before (take count.new kept.new) marks.new }
+        → IsWatched sha256 scheme name key changes (stored_in core.old) → IsWatched sha256 scheme name key changes (stored_in core.new) }
+    ensures client { result ≡ 0 → (auditors : List Auditor) (before : List StoredOne) → IsClient sha256 auditors before (stored_in core.old) core.old.marks.items.now
+        → IsClient sha256 auditors before (stored_in core.new) core.new.marks.items.now }
 {
     laws::clients();
-    if *count > kept.len() {
+    if core.stored.count > core.stored.items.len() {
         return numbers::MISUSE_NO_ROOM;
     }
-    let told = Told {
-        signature: signature_verdict,
+    let reported = Reported {
+        signature: received.signature,
     };
+    let policy = core.rules.policy;
+    let watch = core.watched();
     let fed = Fed {
         policy: &policy.bytes,
-        entry,
-        time,
+        entry: received.entry,
+        time: received.time,
     };
-    match feed(Sha256Hash, &told, &kept[..*count], &watch.watch(), &fed) {
+    match feed(Sha256Hash, &reported, core.stored(), &watch, &fed) {
         Ok(accepted) => {
-            if !has_place(*count, kept.len(), &accepted) {
+            if !has_place(core, &accepted) {
                 return numbers::MISUSE_NO_ROOM;
             }
-            store(kept, count, &accepted);
-            reset_marks(marks, &accepted);
+            store(&mut core.stored, &accepted);
+            reset_marks(core.marks.items, &accepted);
             numbers::GOOD
         }
         Err(fault) => {

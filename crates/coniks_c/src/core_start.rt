@@ -7,25 +7,27 @@ ghost use Rattle.coniks_proof.specs.Octets.{Octets};
 ghost use Rattle.coniks_proof.specs.Sha256.{sha256};
 ghost use Rattle.coniks_chain.specs.Entries.{entry_from};
 ghost use Rattle.coniks_client.specs.Steps.{new_number};
-ghost use Rattle.coniks_client.specs.declared.kept.Kept.{Kept as KeptOne};
+ghost use Rattle.coniks_client.specs.declared.stored.StoredEntry.{StoredEntry as StoredOne};
 ghost use Rattle.coniks_quorum.specs.Marks.{IsGreatest, marks_of};
 ghost use Rattle.coniks_quorum.specs.Vouching.{Begins, IsRefusedStart};
 ghost use Rattle.coniks_quorum.specs.declared.vouching.StartFault.{StartFault as Fault};
+ghost use Rattle.coniks_c.specs.Core.{stored_in};
 ghost use Rattle.coniks_c.specs.CoreQuorum.{head_in, heads_in, misused_start};
 ghost use Rattle.coniks_c.specs.CoreStatuses.{start_status, why_of_start};
-ghost use Rattle.coniks_c.specs.CoreTold.{watch_in};
-ghost use Rattle.coniks_c.specs.Crossing.{IsToldBy};
+ghost use Rattle.coniks_c.specs.CoreReported.{watch_in};
+ghost use Rattle.coniks_c.specs.Crossing.{IsReportedBy};
 
-use crate::auditor::Told;
+use crate::auditor::Reported;
+use crate::core_client::RawCore;
 use crate::core_status::start_status;
-use crate::core_values::{RawWatch, RawWhy};
+use crate::core_values::{RawReceived, RawWhy};
 use crate::numbers;
 use crate::values::Bytes32;
-use coniks_client::Kept;
 use coniks_client::watching::UNWATCHED;
+use coniks_client::{StoredEntry, Watch};
 use coniks_proof::{Digest, Head, Sha256Hash};
 use coniks_quorum::heads::MAX_AUDITORS;
-use coniks_quorum::vouching::{Vouchers, vouched};
+use coniks_quorum::vouching::{StartVerifier, Vouchers, vouched};
 
 /// The head that an auditor cosigned.
 #[repr(C)]
@@ -65,16 +67,16 @@ fn write_heads(heads: &[RawHead], all: &mut [Option<Head>])
 }
 
 /// Returns the status of a start that the caller must not make, or 0.
-fn misused_start(count: usize, quorum: usize, heads: usize, room: usize) -> u32
-    ensures { result ≡ misused_start count quorum heads room }
+fn misused_start(core: &RawCore<'_, '_>, heads: &[RawHead]) -> u32
+    ensures { result ≡ misused_start core.now (length heads.now) }
 {
-    if count > 0 {
+    if core.stored.count > 0 {
         numbers::MISUSE_HAS_ENTRIES
-    } else if quorum == 0 {
+    } else if core.rules.quorum == 0 {
         numbers::MISUSE_NO_QUORUM
-    } else if heads > MAX_AUDITORS {
+    } else if heads.len() > MAX_AUDITORS {
         numbers::MISUSE_MANY_HEADS
-    } else if room == 0 {
+    } else if core.stored.items.is_empty() {
         numbers::MISUSE_NO_ROOM
     } else {
         numbers::GOOD
@@ -82,21 +84,21 @@ fn misused_start(count: usize, quorum: usize, heads: usize, room: usize) -> u32
 }
 
 /// Returns the number of the first epoch.
-fn first_number(watch: &RawWatch<'_>, epoch: u64) -> u8
-    ensures { result ≡ new_number (watch_in watch.now) epoch }
+fn first_number(watch: &Option<Watch<'_>>, epoch: u64) -> u8
+    ensures { result ≡ new_number watch.now epoch }
 {
-    match watch.watch() {
+    match watch {
         Some(watch) => watch.first(epoch),
         None => UNWATCHED,
     }
 }
 
-/// Writes the first kept epoch.
-fn put_first(kept: &mut [Kept], mine: &Kept, seen: u8)
-    requires { 0 < length kept.old }
-    ensures { kept.new ≡ set kept.old 0 (record mine.now { seen = seen }) }
+/// Writes the first stored epoch.
+fn put_first(stored: &mut [StoredEntry], mine: &StoredEntry, seen: u8)
+    requires { 0 < length stored.old }
+    ensures { stored.new ≡ set stored.old 0 (record mine.now { seen = seen }) }
 {
-    kept[0] = Kept {
+    stored[0] = StoredEntry {
         entry: mine.entry,
         first_seen: mine.first_seen,
         seen,
@@ -105,59 +107,59 @@ fn put_first(kept: &mut [Kept], mine: &Kept, seen: u8)
 
 /// Accepts the first entry of a client that starts late: a quorum of auditors has the entry's head.
 ///
-/// `heads` has the head of each auditor, in the order of the marks, at most 64. The quorum is that of `coniks_core_quorum`. Pass 1 as the
-/// verification result if the entry's signature is valid for its first 145 bytes. Returns 0, and the entry is kept. Call
-/// `coniks_core_mark` with each head then. Else returns the first error in this order, and keeps nothing: 140 if the client has an entry,
-/// 141 if the quorum is 0, 142 for more than 64 heads, 137 if there is no room for an epoch; then 48, 40, 80, 81, 105 if an auditor has
-/// another link for the entry's epoch, 104 if fewer than a quorum have its head. From 48 on `why` is written. After an error nothing
-/// else is.
+/// `heads` has the head of each auditor, in the order of the marks, at most 64. The quorum is that of `coniks_core_quorum`. Returns 0, and
+/// the entry is stored. Call `coniks_core_mark` with each head then. Else returns the first error in this order, and keeps nothing: 140 if
+/// the client has an entry, 141 if the quorum is 0, 142 for more than 64 heads, 137 if there is no room for an epoch; then 48, 40, 80, 81,
+/// 105 if an auditor has another link for the entry's epoch, 104 if fewer than a quorum have its head. From 48 on `why` is written. After
+/// an error nothing else is.
 #[unsafe(no_mangle)]
 pub extern "C" fn coniks_core_start(
-    policy: &Bytes32,
-    kept: &mut [Kept],
-    count: &mut usize,
-    watch: &RawWatch<'_>,
+    core: &mut RawCore<'_, '_>,
     heads: &[RawHead],
-    quorum: usize,
-    entry: &[u8],
-    signature_verdict: u32,
-    time: u64,
+    received: &RawReceived<'_>,
     why: &mut RawWhy,
 ) -> u32
-    ensures misused { misused_start count.old quorum (length heads.now) (length kept.old) ≢ 0
-        → (result ≡ misused_start count.old quorum (length heads.now) (length kept.old)) × (why.new ≡ why.old) }
-    ensures begins { result ≡ 0 → (verdict : Octets → Octets → Bool) → IsToldBy verdict (entry_from entry.now) signature_verdict
-        → Begins sha256 verdict policy.now.bytes (heads_in heads.now) quorum entry.now }
-    ensures one { result ≡ 0 → (count.old ≡ 0) × (count.new ≡ 1) }
-    ensures kept { result ≡ 0 → (mine : KeptOne) × (kept.new ≡ set kept.old 0 mine) × (mine.entry ≡ entry.now)
-        × (mine.first_seen ≡ to_be_bytes w64 time) × (mine.seen ≡ new_number (watch_in watch.now) (entry_from entry.now).body.t) }
-    ensures refused { result ≢ 0 → misused_start count.old quorum (length heads.now) (length kept.old) ≡ 0
-        → (verdict : Octets → Octets → Bool) → IsToldBy verdict (entry_from entry.now) signature_verdict
-        → (fault : Fault) × (result ≡ start_status fault) × IsRefusedStart sha256 verdict policy.now.bytes (heads_in heads.now) quorum entry.now fault × (why.new ≡ why_of_start fault) }
-    ensures unchanged { result ≢ 0 → (kept.new ≡ kept.old) × (count.new ≡ count.old) }
+    ensures misused { misused_start core.old (length heads.now) ≢ 0 → (result ≡ misused_start core.old (length heads.now)) × (why.new ≡ why.old) }
+    ensures begins { result ≡ 0 → (verdict : Octets → Octets → Bool) → IsReportedBy verdict (entry_from received.now.entry.now) received.now.signature
+        → Begins sha256 verdict core.old.rules.policy.bytes (heads_in heads.now) core.old.rules.quorum received.now.entry.now }
+    ensures one { result ≡ 0 → (core.old.stored.count ≡ 0) × (core.new.stored.count ≡ 1) }
+    ensures stored { result ≡ 0 → (mine : StoredOne) × (core.new.stored.items.now ≡ set core.old.stored.items.now 0 mine) × (mine.entry ≡ received.now.entry.now)
+        × (mine.first_seen ≡ to_be_bytes w64 received.now.time) × (mine.seen ≡ new_number (watch_in core.old.watch) (entry_from received.now.entry.now).body.t) }
+    ensures refused { result ≢ 0 → misused_start core.old (length heads.now) ≡ 0
+        → (verdict : Octets → Octets → Bool) → IsReportedBy verdict (entry_from received.now.entry.now) received.now.signature
+        → (fault : Fault) × (result ≡ start_status fault) × IsRefusedStart sha256 verdict core.old.rules.policy.bytes (heads_in heads.now) core.old.rules.quorum received.now.entry.now fault × (why.new ≡ why_of_start fault) }
+    ensures others { core.new ≡ record core.old { stored = core.new.stored } }
+    ensures unchanged { result ≢ 0 → core.new ≡ core.old }
     ensures unwritten { result ≡ 0 → why.new ≡ why.old }
 
     // The greatest epoch that the marks of these heads confirm is that of the entry.
-    ensures confirmed { result ≡ 0 → IsGreatest (marks_of sha256 (take 1 kept.new) (heads_in heads.now)) quorum (entry_from entry.now).body.t }
+    ensures confirmed { result ≡ 0 → IsGreatest (marks_of sha256 (stored_in core.new) (heads_in heads.now)) core.old.rules.quorum (entry_from received.now.entry.now).body.t }
 {
-    let misused = misused_start(*count, quorum, heads.len(), kept.len());
+    let misused = misused_start(core, heads);
     if misused != numbers::GOOD {
         return misused;
     }
-    let told = Told {
-        signature: signature_verdict,
+    let reported = Reported {
+        signature: received.signature,
     };
     let mut all = [None; MAX_AUDITORS];
     write_heads(heads, &mut all);
     let vouchers = Vouchers {
         heads: &all[..heads.len()],
-        quorum,
+        quorum: core.rules.quorum,
     };
-    match vouched(&Sha256Hash, &policy.bytes, &vouchers, entry, &told, time) {
+    let policy = core.rules.policy;
+    let watch = core.watched();
+    let by = StartVerifier {
+        hash: &Sha256Hash,
+        signatures: &reported,
+        policy: &policy.bytes,
+    };
+    match vouched(&by, &vouchers, received.entry, received.time) {
         Ok(mine) => {
-            let seen = first_number(watch, mine.epoch());
-            put_first(kept, &mine, seen);
-            *count = 1;
+            let seen = first_number(&watch, mine.epoch());
+            put_first(core.stored.items, &mine, seen);
+            core.stored.count = 1;
             numbers::GOOD
         }
         Err(fault) => {

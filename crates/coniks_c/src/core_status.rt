@@ -154,7 +154,7 @@ pub fn reliance_status(reliance: Reliance) -> u32
 }
 
 impl RawWhy {
-    /// Returns what there is if nothing more is to be said.
+    /// Returns what there is if nothing more is to be reported.
     fn nothing() -> RawWhy
         ensures { result ≡ no_more }
     {
@@ -165,7 +165,7 @@ impl RawWhy {
         }
     }
 
-    /// Returns the kept entry that convicts with the refused one.
+    /// Returns the stored entry that convicts with the refused one.
     pub(crate) fn convicted(status: u32, evidence: &Evidence) -> RawWhy
         ensures { result ≡ convicted status evidence.now }
     {

@@ -1,12 +1,12 @@
 //! What crosses between C and the client's core.
 
 ghost use Rattle.std.specs.Prelude.{◌≡◌, ◌-◌, IfSome, length};
-ghost use Rattle.coniks_proof.specs.Proofs.{said};
+ghost use Rattle.coniks_proof.specs.Proofs.{stated};
 ghost use Rattle.coniks_c.specs.CoreStatuses.{seen_of, shows_of};
-ghost use Rattle.coniks_c.specs.CoreTold.{asked_epoch, present_in, watch_in};
+ghost use Rattle.coniks_c.specs.CoreReported.{requested_epoch, watch_in};
 
 use crate::values::Bytes32;
-use coniks_client::{Clock, IndexScheme, Present, Shown, Watch};
+use coniks_client::{IndexScheme, Shown, Watch};
 use coniks_proof::{Answer, Index};
 
 /// The watched name. The caller keeps the bytes of the name and of the key.
@@ -22,16 +22,14 @@ pub struct RawWatch<'a> {
     pub key: &'a [u8],
 }
 
-/// The policy's clock and the client's limits, in seconds, and the Unix time of the call.
+/// An entry that the client received.
 #[repr(C)]
 #[derive(Clone, Copy)]
-pub struct RawPresent {
-    /// 1 if the policy has a clock. Nothing else is read if not.
-    pub has_clock: u32,
-    pub start: u64,
-    pub period: u64,
-    pub max_age: u64,
-    pub skew: u64,
+pub struct RawReceived<'a> {
+    pub entry: &'a [u8],
+    /// 1 if the caller found the entry's signature valid for its first 145 bytes.
+    pub signature: u32,
+    /// When it was received, in Unix seconds.
     pub time: u64,
 }
 
@@ -41,9 +39,11 @@ pub struct RawPresent {
 pub struct RawAsking<'a> {
     pub name: &'a [u8],
     pub reply: &'a [u8],
-    /// 1 if `epoch` is asked, and not the latest one.
-    pub is_asked: u32,
+    /// 1 if `epoch` is requested, and not the latest one.
+    pub is_requested: u32,
     pub epoch: u64,
+    /// When the reply was received, in Unix seconds.
+    pub time: u64,
 }
 
 /// What the caller has verified: 1 for what is valid.
@@ -66,7 +66,7 @@ pub struct RawWhy {
     pub status: u32,
     /// The kind of the evidence, 1 to 3; 0 if there is none.
     pub kind: u32,
-    /// The place of the kept entry that convicts with the refused one; SIZE_MAX if it convicts alone.
+    /// The place of the stored entry that convicts with the refused one; SIZE_MAX if it convicts alone.
     pub mine: usize,
 }
 
@@ -87,7 +87,7 @@ pub struct RawNeeds {
 #[repr(C)]
 #[derive(Clone, Copy)]
 pub struct RawFound {
-    /// The place of its epoch among the kept ones.
+    /// The place of its epoch among the stored ones.
     pub place: usize,
     /// 1 for a key, 2 for none.
     pub shows: u32,
@@ -102,10 +102,10 @@ impl RawFound {
     /// Returns what a reply shows, whose last bytes are the key's.
     pub(crate) fn of(shown: &Shown<'_>, reply: &[u8]) -> RawFound
         ensures place { result.place ≡ shown.now.place }
-        ensures shows { result.shows ≡ shows_of (said shown.now.answer) }
+        ensures shows { result.shows ≡ shows_of (stated shown.now.answer) }
         ensures seen { result.seen ≡ seen_of shown.now.number }
-        ensures start { IfSome (said shown.now.answer) (λ key. result.key_start ≡ length reply.now - length key) }
-        ensures length { IfSome (said shown.now.answer) (λ key. result.key_length ≡ length key) }
+        ensures start { IfSome (stated shown.now.answer) (λ key. result.key_start ≡ length reply.now - length key) }
+        ensures length { IfSome (stated shown.now.answer) (λ key. result.key_length ≡ length key) }
     {
         let key_length = match &shown.answer {
             Answer::Key(key) => key.len(),
@@ -138,34 +138,12 @@ impl<'a> RawWatch<'a> {
     }
 }
 
-impl RawPresent {
-    /// Returns the clock, if there is one, and the time.
-    pub(crate) fn present(&self) -> Present
-        ensures { result ≡ present_in self.now }
-    {
-        let clock = if self.has_clock == 1 {
-            Some(Clock {
-                start: self.start,
-                period: self.period,
-                max_age: self.max_age,
-                skew: self.skew,
-            })
-        } else {
-            None
-        };
-        Present {
-            clock,
-            time: self.time,
-        }
-    }
-}
-
 impl RawAsking<'_> {
-    /// Returns the asked epoch, if one is asked.
-    pub(crate) fn asked(&self) -> Option<u64>
-        ensures { result ≡ asked_epoch self.now.is_asked self.now.epoch }
+    /// Returns the requested epoch, if one is requested.
+    pub(crate) fn requested(&self) -> Option<u64>
+        ensures { result ≡ requested_epoch self.now.is_requested self.now.epoch }
     {
-        if self.is_asked == 1 {
+        if self.is_requested == 1 {
             Some(self.epoch)
         } else {
             None
@@ -175,16 +153,16 @@ impl RawAsking<'_> {
 
 /// The caller's result of verifying a VRF proof.
 #[derive(Clone, Copy)]
-pub(crate) struct ToldIndex {
+pub(crate) struct ReportedIndex {
     /// 1 if the proof is one of the name.
     pub verdict: u32,
     pub index: Index,
 }
 
-impl IndexScheme for ToldIndex {
-    ghost use Rattle.coniks_c.specs.CoreTold.{told_index};
+impl IndexScheme for ReportedIndex {
+    ghost use Rattle.coniks_c.specs.CoreReported.{reported_index};
 
-    ghost index_of = { λ told name proof. told_index told.verdict told.index.0 };
+    ghost index_of = { λ reported name proof. reported_index reported.verdict reported.index.0 };
 
     fn index(&self, _name: &[u8], _proof: &[u8]) -> Option<Index> {
         if self.verdict == 1 {
@@ -197,7 +175,7 @@ impl IndexScheme for ToldIndex {
 
 /// Returns the number of what is shown.
 pub(crate) fn shows_number(answer: &Answer<'_>) -> u32
-    ensures { result ≡ shows_of (said answer.now) }
+    ensures { result ≡ shows_of (stated answer.now) }
 {
     match answer {
         Answer::Key(_) => 1,

@@ -6,10 +6,10 @@ ghost use Rattle.coniks_chain.specs.Entries.{entry_from};
 ghost use Rattle.coniks_chain.specs.Guard.{Abandons, Adopts, Answers, Asks, IsRefusedAbandon, IsRefusedAdopt, IsRefusedAsk, IsRefusedSign, Signs, bodies_in, raw_body, rivals};
 ghost use Rattle.coniks_chain.specs.declared.guard.AbandonFault.{AbandonFault as Unabandoned};
 ghost use Rattle.coniks_chain.specs.declared.guard.AdoptFault.{AdoptFault as Unadopted};
-ghost use Rattle.coniks_chain.specs.declared.guard.AskFault.{AskFault as Unasked};
+ghost use Rattle.coniks_chain.specs.declared.guard.AskFault.{AskFault as Unrequested};
 ghost use Rattle.coniks_chain.specs.declared.guard.Effect.TheVariants.{Added, Narrowed};
 ghost use Rattle.coniks_chain.specs.declared.guard.SignFault.{SignFault as Unsigned};
-ghost use Rattle.coniks_chain.specs.declared.guard_record.Answer.{Answer as Said};
+ghost use Rattle.coniks_chain.specs.declared.guard_record.Answer.{Answer as Stated};
 ghost use Rattle.coniks_c.specs.Guarding.{IfSigned, abandon_status, adopt_status, answer_number, ask_status, record_in, sign_status};
 
 use crate::entries::entry_of;
@@ -17,7 +17,7 @@ use crate::guard_status::{abandon_status, adopt_status, answer_number, ask_statu
 use crate::numbers;
 use coniks_chain::Signature;
 use coniks_chain::guard::{Effect, abandon, adopt, ask, sign};
-use coniks_chain::guard_record::{Answer, RawBody, RawHeld, answer_of, keep_rivals};
+use coniks_chain::guard_record::{Answer, RawBody, RawGuardState, answer_of, keep_rivals};
 use coniks_proof::Sha256Hash;
 
 /// The 64 bytes of a signature.
@@ -45,7 +45,7 @@ fn is_added(effect: Effect) -> bool
 fn narrow(abandoned: &mut [RawBody], count: usize, body: &RawBody) -> usize
     requires { count ≤ length abandoned.old }
     ensures within { result ≤ length abandoned.old }
-    ensures kept { bodies_in (take result abandoned.new) ≡ rivals (raw_body body.now) (bodies_in (take count abandoned.old)) }
+    ensures retained { bodies_in (take result abandoned.new) ≡ rivals (raw_body body.now) (bodies_in (take count abandoned.old)) }
 {
     keep_rivals(&mut abandoned[..count], &body.body())
 }
@@ -64,21 +64,21 @@ fn append(abandoned: &mut [RawBody], count: usize, body: &RawBody)
 /// Return no other signature to anybody.
 #[unsafe(no_mangle)]
 pub extern "C" fn coniks_guard_answer(
-    stored: &RawHeld,
+    stored: &RawGuardState,
     abandoned: &[RawBody],
     body: &RawBody,
     signature: &mut RawSignature,
 ) -> u32
-    ensures answers { (said : Said) × (result ≡ answer_number said) × Answers (record_in stored.now abandoned.now) (raw_body body.now) said
-        × IfSigned said (λ found. signature.new.bytes ≡ found.0) }
+    ensures answers { (stated : Stated) × (result ≡ answer_number stated) × Answers (record_in stored.now abandoned.now) (raw_body body.now) stated
+        × IfSigned stated (λ found. signature.new.bytes ≡ found.0) }
     ensures unwritten { result ≢ 1 → signature.new ≡ signature.old }
 {
-    let said = answer_of(&stored.held(), abandoned, &body.body());
-    if let Answer::Signed(found) = said {
+    let stated = answer_of(&stored.guard_state(), abandoned, &body.body());
+    if let Answer::Signed(found) = stated {
         let bytes = found.0;
         *signature = RawSignature { bytes };
     }
-    answer_number(&said)
+    answer_number(&stated)
 }
 
 /// Asks for the signature of a body. A body that is signed or abandoned changes nothing; another one is open in the record then.
@@ -89,25 +89,25 @@ pub extern "C" fn coniks_guard_answer(
 /// Returns 0, or the first reason why the key must not sign the body, 112 to 122. Then the record is unchanged.
 #[unsafe(no_mangle)]
 pub extern "C" fn coniks_guard_ask(
-    stored: &mut RawHeld,
+    stored: &mut RawGuardState,
     abandoned: &[RawBody],
     may_begin: u32,
     body: &RawBody,
 ) -> u32
     ensures asks { result ≡ 0 → Asks sha256 (may_begin == 1) (record_in stored.old abandoned.now) (raw_body body.now) (record_in stored.new abandoned.now) }
-    ensures refused { (fault : Unasked) → result ≡ ask_status fault → IsRefusedAsk sha256 (may_begin == 1) (record_in stored.old abandoned.now) (raw_body body.now) fault }
-    ensures known { (result ≡ 0) ⊎ ((fault : Unasked) × (result ≡ ask_status fault)) }
+    ensures refused { (fault : Unrequested) → result ≡ ask_status fault → IsRefusedAsk sha256 (may_begin == 1) (record_in stored.old abandoned.now) (raw_body body.now) fault }
+    ensures known { (result ≡ 0) ⊎ ((fault : Unrequested) × (result ≡ ask_status fault)) }
     ensures unchanged { result ≢ 0 → stored.new ≡ stored.old }
 {
     match ask(
         &Sha256Hash,
         may_begin == 1,
-        &stored.held(),
+        &stored.guard_state(),
         abandoned,
         &body.body(),
     ) {
         Ok(next) => {
-            *stored = RawHeld::of(&next.held);
+            *stored = RawGuardState::of(&next.guard_state);
             numbers::GOOD
         }
         Err(fault) => ask_status(fault),
@@ -124,7 +124,7 @@ pub extern "C" fn coniks_guard_ask(
 /// open, 123 if the body is not open. Then nothing is changed.
 #[unsafe(no_mangle)]
 pub extern "C" fn coniks_guard_sign(
-    stored: &mut RawHeld,
+    stored: &mut RawGuardState,
     abandoned: &mut [RawBody],
     count: &mut usize,
     replaces: u32,
@@ -144,7 +144,7 @@ pub extern "C" fn coniks_guard_sign(
         return numbers::MISUSE_NO_ROOM;
     }
     let next = match sign(
-        &stored.held(),
+        &stored.guard_state(),
         &abandoned[..*count],
         replaces == 1,
         &body.body(),
@@ -153,7 +153,7 @@ pub extern "C" fn coniks_guard_sign(
         Ok(next) => next,
         Err(fault) => return sign_status(fault),
     };
-    *stored = RawHeld::of(&next.held);
+    *stored = RawGuardState::of(&next.guard_state);
     if is_narrowed(next.effect) {
         *count = narrow(abandoned, *count, body);
     }
@@ -167,7 +167,7 @@ pub extern "C" fn coniks_guard_sign(
 /// last one signed, 137 if there is no room for a body more. Then nothing is changed.
 #[unsafe(no_mangle)]
 pub extern "C" fn coniks_guard_abandon(
-    stored: &mut RawHeld,
+    stored: &mut RawGuardState,
     abandoned: &mut [RawBody],
     count: &mut usize,
     body: &RawBody,
@@ -183,7 +183,7 @@ pub extern "C" fn coniks_guard_abandon(
     if *count > abandoned.len() {
         return numbers::MISUSE_NO_ROOM;
     }
-    let next = match abandon(&stored.held(), &abandoned[..*count], &body.body()) {
+    let next = match abandon(&stored.guard_state(), &abandoned[..*count], &body.body()) {
         Ok(next) => next,
         Err(fault) => return abandon_status(fault),
     };
@@ -194,7 +194,7 @@ pub extern "C" fn coniks_guard_abandon(
         append(abandoned, *count, body);
         *count += 1;
     }
-    *stored = RawHeld::of(&next.held);
+    *stored = RawGuardState::of(&next.guard_state);
     numbers::GOOD
 }
 
@@ -204,7 +204,7 @@ pub extern "C" fn coniks_guard_abandon(
 /// has such an entry. Then the record is unchanged.
 #[unsafe(no_mangle)]
 pub extern "C" fn coniks_guard_adopt(
-    stored: &mut RawHeld,
+    stored: &mut RawGuardState,
     abandoned: &[RawBody],
     entry: &[u8],
 ) -> u32
@@ -217,9 +217,9 @@ pub extern "C" fn coniks_guard_adopt(
     let Some(entry) = entry_of(entry) else {
         return numbers::ENTRY_LENGTH;
     };
-    match adopt(&stored.held(), abandoned, &entry) {
+    match adopt(&stored.guard_state(), abandoned, &entry) {
         Ok(next) => {
-            *stored = RawHeld::of(&next.held);
+            *stored = RawGuardState::of(&next.guard_state);
             numbers::GOOD
         }
         Err(fault) => adopt_status(fault),

@@ -7,6 +7,7 @@
 
 mod auditor;
 mod check;
+mod core_client;
 mod core_compare;
 mod core_cover;
 mod core_feed;
@@ -33,11 +34,14 @@ mod version;
 
 pub use auditor::{coniks_auditor_begin, coniks_auditor_feed, coniks_auditor_head};
 pub use check::coniks_check;
+pub use core_client::{
+    RawAlarms, RawChanges, RawClock, RawCore, RawMarks, RawPromise, RawRules, RawStored,
+};
 pub use core_compare::{coniks_core_compare, coniks_core_evidence};
 pub use core_cover::{RawCovered, coniks_core_cover, coniks_core_note};
 pub use core_feed::coniks_core_feed;
 pub use core_history::{
-    RawHistory, RawHistoryNeeds, RawSiblings, coniks_core_catch_up, coniks_core_history,
+    RawHistory, RawHistoryNeeds, RawSiblings, RawSteps, coniks_core_catch_up, coniks_core_history,
     coniks_core_history_needs,
 };
 pub use core_lookup::{coniks_core_lookup, coniks_core_reply_needs};
@@ -45,13 +49,13 @@ pub use core_lost::coniks_core_lost;
 pub use core_quorum::{
     coniks_core_confirmed, coniks_core_mark, coniks_core_quorum, coniks_core_relied,
 };
-pub use core_report::{RawPromise, RawReport, coniks_core_report};
+pub use core_report::{RawReport, coniks_core_report};
 pub use core_start::{RawHead, coniks_core_start};
 pub use core_state::{
-    RawSaved, RawStateNeeds, coniks_core_state_needs, coniks_core_state_read,
-    coniks_core_state_size, coniks_core_state_write,
+    RawStateNeeds, coniks_core_state_needs, coniks_core_state_read, coniks_core_state_size,
+    coniks_core_state_write,
 };
-pub use core_values::{RawAsking, RawFound, RawNeeds, RawPresent, RawVerdicts, RawWatch, RawWhy};
+pub use core_values::{RawAsking, RawFound, RawNeeds, RawReceived, RawVerdicts, RawWatch, RawWhy};
 pub use core_watch::{coniks_core_expect, coniks_core_watch};
 pub use entries::{coniks_body_bytes, coniks_entry_body, coniks_link};
 pub use evidence::coniks_convicts;

@@ -13,11 +13,11 @@ ghost use Rattle.coniks_chain.specs.Seen.{key_shown};
 ghost use Rattle.coniks_chain.specs.declared.auditor.AuditFault.{AuditFault as Fault};
 ghost use Rattle.coniks_chain.specs.declared.seen.MonitorFault.TheVariants.{Audit, Check};
 ghost use Rattle.coniks_chain.specs.declared.seen.Seen.{Seen as Sight};
-ghost use Rattle.coniks_c.specs.Crossing.{IsToldBy, before_in};
+ghost use Rattle.coniks_c.specs.Crossing.{IsReportedBy, before_in};
 ghost use Rattle.coniks_c.specs.Statuses.{IsAuditStatus, IsCheckStatus, IsSeenStatus, IsWireStatus, status_of_seen};
 ghost use Rattle.coniks_c.specs.Watched.{IsRefusedStep, Sees, expectation};
 
-use crate::auditor::Told;
+use crate::auditor::Reported;
 use crate::entries::entry_of;
 use crate::numbers;
 use crate::status::{audit_status, check_status, seen_status, wire_status};
@@ -53,16 +53,16 @@ pub extern "C" fn coniks_monitor_step(
     ensures whole { result ≢ 48 → length entry.now ≡ ENTRY_BYTES }
     ensures other { result ≡ 48 → length entry.now ≢ ENTRY_BYTES }
     ensures seen { (seen : Sight) → result ≡ status_of_seen seen → (verdict : Octets → Octets → Bool)
-        → IsToldBy verdict (entry_from entry.now) signature_verdict
+        → IsReportedBy verdict (entry_from entry.now) signature_verdict
         → Sees verdict (before_in state.old) name.now index.now.bytes (expectation expected.now) (entry_from entry.now) proof.now seen }
-    ensures kept { IsSeenStatus result → before_in state.new ≡ Some (auditor_after sha256 (entry_from entry.now)) }
+    ensures retained { IsSeenStatus result → before_in state.new ≡ Some (auditor_after sha256 (entry_from entry.now)) }
     ensures unused { IsSeenStatus result → state.new.unused ≡ replicate 7 0 }
     ensures unread { (fault : Unread) → result ≡ order fault + 16 → IsFirstUnread (WireHas proof.now) fault }
     ensures audited { (fault : Fault) → result ≡ place_of fault + 33 → (verdict : Octets → Octets → Bool)
-        → IsToldBy verdict (entry_from entry.now) signature_verdict
+        → IsReportedBy verdict (entry_from entry.now) signature_verdict
         → IsRefusedStep verdict (before_in state.old) name.now index.now.bytes (entry_from entry.now) proof.now (Audit fault) }
     ensures checked { (fault : Wrong) → result ≡ number fault + 1 → (verdict : Octets → Octets → Bool)
-        → IsToldBy verdict (entry_from entry.now) signature_verdict
+        → IsReportedBy verdict (entry_from entry.now) signature_verdict
         → IsRefusedStep verdict (before_in state.old) name.now index.now.bytes (entry_from entry.now) proof.now (Check fault) }
     ensures known { IsSeenStatus result ⊎ (result ≡ 48) ⊎ IsWireStatus result ⊎ IsAuditStatus result ⊎ IsCheckStatus result }
     ensures unchanged { (IsSeenStatus result → ⊥) → state.new ≡ state.old }
@@ -74,7 +74,7 @@ pub extern "C" fn coniks_monitor_step(
         Ok(proof) => proof,
         Err(fault) => return wire_status(fault),
     };
-    let told = Told {
+    let reported = Reported {
         signature: signature_verdict,
     };
     let wanted = Wanted {
@@ -83,7 +83,7 @@ pub extern "C" fn coniks_monitor_step(
         expected: expectation(expected),
     };
     let mut auditor = Auditor::resume(Sha256Hash, state.state());
-    match auditor.watch(&wanted, &entry, &proof, &told) {
+    match auditor.watch(&wanted, &entry, &proof, &reported) {
         Ok(seen) => {
             if let Some(before) = auditor.state() {
                 *state = RawAuditorState::after(&before);

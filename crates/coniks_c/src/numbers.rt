@@ -135,7 +135,7 @@ pub const OTHER_POLICY: u32 = 80;
 /// No chain has the signed entry.
 pub const MALFORMED: u32 = 81;
 
-/// The signed entry and a kept one are evidence.
+/// The signed entry and a stored one are evidence.
 pub const EQUIVOCATION: u32 = 82;
 
 /// The chain has no entry at this epoch.

@@ -74,7 +74,7 @@ fn check_text(fault: CheckFault) -> &'static str
     }
 }
 
-/// What is said of bytes that are no proof's.
+/// What is stated about bytes that are no proof's.
 fn wire_text(fault: WireFault) -> &'static str
     ensures { result.now ≡ wire_text fault }
 {
@@ -111,7 +111,7 @@ fn audit_text(fault: AuditFault) -> &'static str
     }
 }
 
-/// What is said of a refusal.
+/// What is stated about a refusal.
 fn text_of(refusal: Refusal) -> &'static str
     ensures { result.now ≡ refusal_text refusal }
 {
@@ -143,7 +143,7 @@ fn write(text: &[u8], place: &mut [u8])
 /// no error's status is empty.
 #[unsafe(no_mangle)]
 pub extern "C" fn coniks_text(status: u32, text: &mut [u8]) -> usize
-    ensures said { (fault : Fault) → refusal_status fault ≡ status
+    ensures stated { (fault : Fault) → refusal_status fault ≡ status
         → (result ≡ length (refusal_text fault)) × (text.new ≡ written text.old (refusal_text fault)) }
     ensures nothing { ((fault : Fault) → refusal_status fault ≢ status) → (result ≡ 0) × (text.new ≡ written text.old []) }
 {

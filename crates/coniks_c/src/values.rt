@@ -78,7 +78,7 @@ impl RawAuditorState {
     /// The state after an entry.
     pub(crate) fn after(before: &AuditorState) -> RawAuditorState
         requires { 0 < before.now.t }
-        ensures kept { before_in result ≡ Some before.now }
+        ensures retained { before_in result ≡ Some before.now }
         ensures unused { result.unused ≡ replicate 7 0 }
     {
         RawAuditorState {

@@ -1,6 +1,6 @@
 use Rattle.std.proofs.Common.{◌≡◌, List, ℕ, Some, sym, subst}
 use Rattle.coniks_proof.specs.Hashing.{hashing}
-use Rattle.coniks_proof.specs.Proofs.{Accepts, said}
+use Rattle.coniks_proof.specs.Proofs.{Accepts, stated}
 use Rattle.coniks_proof.specs.Sha256.{sha256}
 use Rattle.coniks_proof.specs.declared.paths.Answer.{Answer}
 use Rattle.coniks_proof.specs.declared.paths.Proof.{Proof}
@@ -10,7 +10,7 @@ use Rattle.coniks_c.proofs.check.coniks_check.Goals as goal
 -- the key is what stands at the end of the bytes
 pub returns-in-Ok-Key-clause-key : goal.returns-in-Ok-Key-clause-key
 returns-in-Ok-Key-clause-key c zero =
-    let accepted = subst (λ (answer : Answer). Accepts (hashing sha256 c.args.nonce.now.bytes) c.args.root.now.bytes c.args.index.now.bytes c.args.name.now c.in-Ok.read (said answer))
+    let accepted = subst (λ (answer : Answer). Accepts (hashing sha256 c.args.nonce.now.bytes) c.args.root.now.bytes c.args.index.now.bytes c.args.name.now c.in-Ok.read (stated answer))
     c.in-Ok-Key.field-0-is c.in-Ok-Key.ensures.accepted in
     let last = key_is_last c.args.proof.now c.in-Ok-Key.key.now c.in-Ok.read c.in-Ok.ensures.accepted accepted.answered in (
       c.in-Ok.read,

@@ -1,31 +1,56 @@
-use Rattle.std.proofs.Common.{◌≤◌, List, arith, length, subst, sym, take}
+use Rattle.std.proofs.Common.{◌≤◌, List, arith, length, rules, subst, sym}
 use Rattle.coniks_proof.specs.Sha256.{sha256}
-use Rattle.coniks_client.specs.Kept.{IsChain}
+use Rattle.coniks_client.specs.Feeding.{IsRefusedFeed}
+use Rattle.coniks_client.specs.StoredEntry.{IsChain}
 use Rattle.coniks_client.specs.Owner.{IsWatched}
-use Rattle.coniks_client.specs.declared.kept.Kept.{Kept}
+use Rattle.coniks_client.specs.Steps.{IsAccepted, stored_with}
+use Rattle.coniks_client.specs.declared.stored.StoredEntry.{StoredEntry}
 use Rattle.coniks_quorum.specs.Clients.{IsClient}
-use Rattle.coniks_c.proofs.FeedLemmas.{client-kept, stored}
+use Rattle.coniks_c.specs.Core.{stored_in}
+use Rattle.coniks_c.proofs.FeedLemmas.{client-stored, placed}
+use Rattle.coniks_c.proofs.ReportedLemmas.{By}
 use Rattle.coniks_c.proofs.core_feed.coniks_core_feed.Goals as goal
 
 pub returns-else-not-has_place-clause-chain : goal.returns-else-not-has_place-clause-chain
 returns-else-not-has_place-clause-chain c = λ zero chain.
-    let room = c.if-count-kept.false in
-    let within : c.args.count.now ≤ length c.args.kept.now = omega arith in
-    let kept_is = stored c.args.kept.now c.store.new.kept c.args.count.now c.store.new.count c.in-Ok.accepted within (c.has_place.ensures.0 c.if-not-has_place.false) c.store.ensures in
-    subst (λ (kept : List Kept). IsChain sha256 kept) (sym kept_is) (c.in-Ok.ensures.chain chain)
+    let core = c.args.core.now in
+    let room = c.if-core.false in
+    let within : core.stored.count ≤ length core.stored.items.now = omega arith in
+    let stored_is = placed core.stored c.store.new.stored c.in-Ok.accepted within (c.has_place.ensures.0 c.if-not-has_place.false) c.store.ensures in
+    subst (λ (stored : List StoredEntry). IsChain sha256 stored) (sym stored_is)
+    (subst (λ (stored : List StoredEntry). IsChain sha256 (stored_with stored c.in-Ok.accepted)) c.stored.ensures
+    (c.in-Ok.ensures.chain (subst (λ (stored : List StoredEntry). IsChain sha256 stored) (sym c.stored.ensures) chain)))
 
 pub returns-else-not-has_place-clause-watched : goal.returns-else-not-has_place-clause-watched
 returns-else-not-has_place-clause-watched c = λ zero scheme name key changes watched.
-    let room = c.if-count-kept.false in
-    let within : c.args.count.now ≤ length c.args.kept.now = omega arith in
-    let kept_is = stored c.args.kept.now c.store.new.kept c.args.count.now c.store.new.count c.in-Ok.accepted within (c.has_place.ensures.0 c.if-not-has_place.false) c.store.ensures in
-    subst (λ (kept : List Kept). IsWatched sha256 scheme name key changes kept) (sym kept_is) (c.in-Ok.ensures.watched scheme name key changes watched)
+    let core = c.args.core.now in
+    let room = c.if-core.false in
+    let within : core.stored.count ≤ length core.stored.items.now = omega arith in
+    let stored_is = placed core.stored c.store.new.stored c.in-Ok.accepted within (c.has_place.ensures.0 c.if-not-has_place.false) c.store.ensures in
+    subst (λ (stored : List StoredEntry). IsWatched sha256 scheme name key changes stored) (sym stored_is)
+    (subst (λ (stored : List StoredEntry). IsWatched sha256 scheme name key changes (stored_with stored c.in-Ok.accepted)) c.stored.ensures
+    (c.in-Ok.ensures.watched scheme name key changes (subst (λ (stored : List StoredEntry). IsWatched sha256 scheme name key changes stored) (sym c.stored.ensures) watched)))
 
 pub returns-else-not-has_place-clause-client : goal.returns-else-not-has_place-clause-client
 returns-else-not-has_place-clause-client c = λ zero auditors before client.
-    let room = c.if-count-kept.false in
-    let within : c.args.count.now ≤ length c.args.kept.now = omega arith in
-    let kept_is = stored c.args.kept.now c.store.new.kept c.args.count.now c.store.new.count c.in-Ok.accepted within (c.has_place.ensures.0 c.if-not-has_place.false) c.store.ensures in
-    subst (λ (kept : List Kept). IsClient sha256 auditors before kept c.reset_marks.new.marks) (sym kept_is)
-    (client-kept c.args.signature_verdict c.args.policy.now.bytes auditors before (take c.args.count.now c.args.kept.now) c.watch.result c.args.entry.now c.args.time
-    c.args.marks.now c.reset_marks.new.marks c.in-Ok.accepted c.clients.ensures.feed c.clients.ensures.again c.in-Ok.ensures.ok c.reset_marks.ensures client)
+    let core = c.args.core.now in
+    let received = c.args.received.now in
+    let room = c.if-core.false in
+    let within : core.stored.count ≤ length core.stored.items.now = omega arith in
+    let stored_is = placed core.stored c.store.new.stored c.in-Ok.accepted within (c.has_place.ensures.0 c.if-not-has_place.false) c.store.ensures in
+    let accepted = subst (λ (stored : List StoredEntry). IsAccepted sha256 (By received.signature) core.rules.policy.bytes stored c.watched-watch.result received.entry.now received.time c.in-Ok.accepted)
+    c.stored.ensures c.in-Ok.ensures.ok in
+    subst (λ (stored : List StoredEntry). IsClient sha256 auditors before stored c.reset_marks.new.marks) (sym stored_is)
+    (client-stored received.signature core.rules.policy.bytes auditors before (stored_in core) c.watched-watch.result received.entry.now received.time
+    core.marks.items.now c.reset_marks.new.marks c.in-Ok.accepted c.clients.ensures.feed c.clients.ensures.again accepted c.reset_marks.ensures client)
+
+pub returns-in-Err-clause-refused : goal.returns-in-Err-clause-refused
+returns-in-Err-clause-refused c = λ bad full verdict alike.
+    let received = c.args.received.now in
+    let policy = c.args.core.now.rules.policy.bytes in
+    let refused : IsRefusedFeed sha256 verdict policy c.stored.result.now received.entry.now c.in-Err.fault = search rules in (
+      c.in-Err.fault,
+      c.feed_status.ensures,
+      subst (λ (stored : List StoredEntry). IsRefusedFeed sha256 verdict policy stored received.entry.now c.in-Err.fault) c.stored.ensures refused,
+      c.of_feed.ensures,
+    )

@@ -1,5 +1,5 @@
 use Rattle.std.proofs.Common.{◌∙◌}
-use Rattle.coniks_c.proofs.CoreStateLemmas.{alarm-count, change-count, entry-there, kept-count}
+use Rattle.coniks_c.proofs.CoreStateLemmas.{alarm-count, change-count, entry-there, stored-count}
 use Rattle.coniks_c.proofs.core_state.coniks_core_state_needs.Goals as goal
 
 pub returns-in-Ok-clause-read : goal.returns-in-Ok-clause-read
@@ -8,9 +8,9 @@ returns-in-Ok-clause-read c = λ good.
       ok.0,
       ok.1,
       record {
-        kept = kept-count c.in-Ok.parts ok.0 ok.2;
-        changes = c.changes_in.ensures ∙ change-count c.in-Ok.parts.watch ok.0.watch ok.2.watch;
+        stored = stored-count c.in-Ok.parts ok.0 ok.2;
+        changes = c.number_of_changes.ensures ∙ change-count c.in-Ok.parts.watch ok.0.watch ok.2.watch;
         alarms = alarm-count c.in-Ok.parts ok.0 ok.2;
-        entries = entry-there c.args.policy.now.bytes c.args.state.now ok.0 ok.1;
+        entries = entry-there c.args.core.now.rules.policy.bytes c.args.state.now ok.0 ok.1;
       },
     )

@@ -8,6 +8,6 @@ pub returns-in-Ok-clause-asks : goal.returns-in-Ok-clause-asks
 returns-in-Ok-clause-asks c = λ _.
     let next = c.in-Ok.next in
     let raws = c.args.abandoned.now in
-    asked next c.held.result c.args.stored.now c.of.result raws raws c.body.result (raw_body c.args.body.now)
-    c.held.ensures c.body.ensures c.of.ensures (stays next.effect raws c.body.result c.in-Ok.ensures.same)
+    asked next c.guard_state.result c.args.stored.now c.of.result raws raws c.body.result (raw_body c.args.body.now)
+    c.guard_state.ensures c.body.ensures c.of.ensures (stays next.effect raws c.body.result c.in-Ok.ensures.same)
     sha256 (c.args.may_begin == 1) c.in-Ok.ensures.ok
