@@ -172,7 +172,7 @@ export interface Found {
 }
 
 /**
- * A client of one directory, which can't forget a step: it verifies signatures, the chain, VRF proofs, paths and the asked epoch.
+ * A client of one directory, which can't forget a step: it verifies signatures, the chain, VRF proofs, paths and the requested epoch.
  * Bytes are copied when a call begins, and what is returned is a copy or frozen. Calls may be under way at once: each checks and
  * keeps in one step, after what it waits for, and sees what others kept until then. So await `feed` before a lookup that needs it.
  * Wrong arguments are a TypeError or a RangeError. A client can't be copied: pass its state on. Times are compared in whole seconds:
@@ -185,7 +185,7 @@ export interface Client {
    * entry once more and feed it: it may have been signed again.
    */
   feed(entries: Uint8Array | Iterable<Uint8Array>): Promise<Fed[]>;
-  /** Returns what a reply shows of a name, at the asked epoch, or at the latest one. Only an asked epoch may be old. Throws `Refusal`. */
+  /** Returns what a reply shows of a name, at the requested epoch, or at the latest one. Only a requested epoch may be old. Throws `Refusal`. */
   lookup(name: string | Uint8Array, reply: Uint8Array, epoch?: number | bigint | null): Promise<Found>;
   /**
    * Returns what a history shows of a name, one for each of its epochs. Throws `Refusal`, and then keeps nothing of it. A key
@@ -241,7 +241,7 @@ export interface Client {
   report(): Report;
   /** Returns what convicts the provider together with another one's entry, or null. Throws `Refusal` if that isn't signed. */
   evidence(entry: Uint8Array): Promise<Evidence | null>;
-  /** The entries that are kept, in the order of the chain. */
+  /** The entries that are stored, in the order of the chain. */
   readonly entries: Uint8Array[];
   /**
    * All that the client keeps, to be stored, and given to another one: 110 bytes, 218 for each epoch, 9 for each alarm, 8 for each auditor,

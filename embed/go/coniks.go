@@ -85,8 +85,8 @@ func refused(status C.uint32_t) error {
 // name is bound to no key. The key is a part of the proof's slice.
 func Check(nonce, root, index [32]byte, name string, proof []byte) ([]byte, error) {
 	var at, length C.size_t
-	asked := []byte(name)
-	status := C.coniks_check(bytes32(&nonce), bytes32(&root), bytes32(&index), start(asked), size(asked), start(proof),
+	requested := []byte(name)
+	status := C.coniks_check(bytes32(&nonce), bytes32(&root), bytes32(&index), start(requested), size(requested), start(proof),
 		size(proof), &at, &length)
 	switch status {
 	case C.CONIKS_GOOD:

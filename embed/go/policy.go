@@ -67,8 +67,8 @@ func (p *Policy) UnmarshalText(text []byte) error {
 		read.VRFKey = new([32]byte)
 		hex.Decode(read.VRFKey[:], found[3])
 	}
-	var start, period, kept uint64
-	for at, number := range map[int]*uint64{4: &start, 5: &period, 7: &kept} {
+	var start, period, stored uint64
+	for at, number := range map[int]*uint64{4: &start, 5: &period, 7: &stored} {
 		if digits := found[at]; digits != nil {
 			var err error
 			if *number, err = strconv.ParseUint(string(digits), 10, 64); err != nil {
@@ -78,7 +78,7 @@ func (p *Policy) UnmarshalText(text []byte) error {
 	}
 	read.EpochStart, read.EpochPeriod = start, period
 	if found[7] != nil {
-		read.ProofsKept = &kept
+		read.ProofsKept = &stored
 	}
 	read.RecordsVouched = found[6] != nil
 	*p = read

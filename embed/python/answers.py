@@ -12,7 +12,7 @@ def data(word: str) -> bytes:
     return bytes.fromhex(word.removeprefix("-"))
 
 
-class Held:
+class Session:
     """An auditor and a monitor."""
 
     def __init__(self) -> None:
@@ -71,11 +71,11 @@ class Held:
 
 
 def main() -> None:
-    held = Held()
+    session = Session()
     for line in sys.stdin:
         word, *words = line.split()
         try:
-            print(getattr(held, word)(*words))
+            print(getattr(session, word)(*words))
         except coniks.Refused as fault:
             print(f"refused {fault.status.value}")
 

@@ -43,23 +43,23 @@ def shown(key: Union[bytes, str, None]) -> str:
     return base64.b64encode(key).decode() if isinstance(key, bytes) else key or "absent"
 
 
-def audit(auditor: coniks.Auditor, seal_key: bytes, said: dict[str, Any]) -> None:
-    entry = bytes.fromhex(said["entry"])
+def audit(auditor: coniks.Auditor, seal_key: bytes, printed: dict[str, Any]) -> None:
+    entry = bytes.fromhex(printed["entry"])
     print(f"epoch {coniks.Body.of_entry(entry).epoch}: {answer(auditor.feed, entry, is_sealed(seal_key, entry)) or 'follows'}")
-    if coniks.link(entry) != bytes.fromhex(said["link"]):
+    if coniks.link(entry) != bytes.fromhex(printed["link"]):
         sys.exit("the line has another link")
 
 
-def look(said: dict[str, Any]) -> None:
-    nonce, root, index = (bytes.fromhex(said[it]) for it in ("nonce", "root", "index"))
-    key = answer(coniks.check, nonce, root, index, said["name"], coniks.proof_bytes(said["proof"]))
-    print(f"epoch {said['epoch']}, {said['name']}: {shown(key)}")
+def look(printed: dict[str, Any]) -> None:
+    nonce, root, index = (bytes.fromhex(printed[it]) for it in ("nonce", "root", "index"))
+    key = answer(coniks.check, nonce, root, index, printed["name"], coniks.proof_bytes(printed["proof"]))
+    print(f"epoch {printed['epoch']}, {printed['name']}: {shown(key)}")
 
 
-def watch(monitor: coniks.Monitor, seal_key: bytes, said: dict[str, Any]) -> None:
-    entry = bytes.fromhex(said["entry"])
-    seen = answer(monitor.step, entry, is_sealed(seal_key, entry), coniks.proof_bytes(said["proof"]))
-    print(f"epoch {said['epoch']}, watched: {seen.name.lower() if isinstance(seen, coniks.Seen) else seen}")
+def watch(monitor: coniks.Monitor, seal_key: bytes, printed: dict[str, Any]) -> None:
+    entry = bytes.fromhex(printed["entry"])
+    seen = answer(monitor.step, entry, is_sealed(seal_key, entry), coniks.proof_bytes(printed["proof"]))
+    print(f"epoch {printed['epoch']}, watched: {seen.name.lower() if isinstance(seen, coniks.Seen) else seen}")
 
 
 def main() -> None:
@@ -71,14 +71,14 @@ def main() -> None:
     auditor = coniks.Auditor()
     monitor: Optional[coniks.Monitor] = None
     for line in sys.stdin:
-        said = json.loads(line)
-        if said.get("ok") == "batch":
-            audit(auditor, words.key, said)
-        elif said.get("ok") == "lookup":
-            look(said)
-            if said["name"] == words.name:
-                monitor = monitor or coniks.Monitor(words.name, bytes.fromhex(said["index"]), words.expect)
-                watch(monitor, words.key, said)
+        printed = json.loads(line)
+        if printed.get("ok") == "batch":
+            audit(auditor, words.key, printed)
+        elif printed.get("ok") == "lookup":
+            look(printed)
+            if printed["name"] == words.name:
+                monitor = monitor or coniks.Monitor(words.name, bytes.fromhex(printed["index"]), words.expect)
+                watch(monitor, words.key, printed)
     print("the seals are a demonstration's, which anyone can forge", file=sys.stderr)
 
 

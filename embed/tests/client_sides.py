@@ -71,8 +71,8 @@ class Side:
         line = self.process.stdout.readline()
         if not line.endswith("\n"):
             raise Broken(f"the program ended at {words[0]}")
-        said: list[str] = line[:-1].split(" ")
-        return said
+        printed: list[str] = line[:-1].split(" ")
+        return printed
 
     def end(self) -> int:
         """The status of the program, whose input ends."""
@@ -157,9 +157,9 @@ def fed(words: Sequence[str]) -> list[list[Any]]:
     return [[int(epoch), None if seen == "-" else seen] for epoch, seen in pairs]
 
 
-def answer_of(side: Side, step: Answer, said: list[str]) -> Answer:
+def answer_of(side: Side, step: Answer, printed: list[str]) -> Answer:
     """A reply as the second implementation has it."""
-    first, rest, do = said[0], said[1:], step["do"]
+    first, rest, do = printed[0], printed[1:], step["do"]
     if first == "refused":
         name, status, *evidence = rest
         return {"refused": name, "status": number_of(status), "evidence": evidence_of(evidence)}
@@ -185,7 +185,7 @@ def answer_of(side: Side, step: Answer, said: list[str]) -> Answer:
         return owner_answer_of(do, first, rest)
     if do == "evidence" and first == "evidence":
         return {"evidence": evidence_of(rest)}
-    raise Broken(f"{do}: {' '.join(said)[:200]}")
+    raise Broken(f"{do}: {' '.join(printed)[:200]}")
 
 
 def owner_answer_of(do: str, first: str, rest: Sequence[str]) -> Answer:
@@ -226,9 +226,9 @@ def verdicts(side: Side, case: Answer) -> Answer:
     trust = case.get("trust")
     if trust:
         side.ask("trust", word(trust["digest"]), number(trust["auditors"]), number(trust["faulty"]))
-    said = side.ask(*begin_words(case))
-    if said != ["begun"]:
-        return {"begin": answer_of(side, {"do": "begin"}, said), "steps": [], "state": None}
+    printed = side.ask(*begin_words(case))
+    if printed != ["begun"]:
+        return {"begin": answer_of(side, {"do": "begin"}, printed), "steps": [], "state": None}
     answers = []
     for step in case["steps"]:
         if "now" in step:

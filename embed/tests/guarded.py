@@ -1,8 +1,9 @@
 """Calls of a library for C with each argument beside inaccessible memory: a byte that is read or written too far ends the tests.
 
 What an argument points at is copied to a place that ends right before an inaccessible page, or begins right after one, by turns. So is
-what the members of a struct point at, if the next member is its length. After the call it is copied back, and bytes that may
-not be written are compared.
+what the members of a struct point at, if the next member is a number: of bytes, or of the items for which an array has room. After the call
+it is copied back. A struct that is passed itself, not by `byref`, may only be read, with what it points at, and so may bytes: they are
+compared.
 """
 
 from __future__ import annotations
@@ -14,7 +15,6 @@ from typing import Any, Iterator, NamedTuple, Optional
 
 _LIBC = ctypes.CDLL(None, use_errno=True)
 _PAGE, _AREAS, _ROOM = mmap.PAGESIZE, 256, 1 << 19
-KEPT = 218
 
 
 class Area:
@@ -41,7 +41,7 @@ class Placed:
 
     def __init__(self, areas: Iterator[Area], is_last: bool) -> None:
         self._areas, self._is_last = areas, is_last
-        self.blocks, self._written, self._read = list[Block](), list[tuple[Any, Block]](), list[Block]()
+        self.blocks, self._written, self._read = list[Block](), list[tuple[Any, Block]](), list[tuple[Block, bytes]]()
 
     def place(self, own: int, length: int) -> Block:
         assert length <= _ROOM
@@ -51,34 +51,40 @@ class Placed:
         self.blocks.append(block)
         return block
 
+    def put(self, own: int, kind: Any, length: int, is_written: bool) -> int:
+        """Places values of this type, and what they point at. Bytes that they point at are only read."""
+        block = self.place(own, length)
+        for offset, of in pointers(kind, length):
+            member = ctypes.c_void_p.from_address(block.copy + offset)
+            count = ctypes.c_size_t.from_address(block.copy + offset + 8).value
+            if member.value:
+                member.value = self.put(member.value, of, count * ctypes.sizeof(of), is_written and of is not ctypes.c_char)
+        if is_written:
+            self._written.append((kind, block))
+        else:
+            self._read.append((block, ctypes.string_at(block.copy, length)))
+        return block.copy
+
     def given(self, argument: Any, following: Any) -> Any:
         """What the call is given for an argument."""
         if isinstance(argument, bytes):
             own = ctypes.cast(ctypes.c_char_p(argument), ctypes.c_void_p).value
             assert own
-            self._read.append(self.place(own, len(argument)))
-            return ctypes.c_void_p(self._read[-1].copy)
+            return ctypes.c_void_p(self.put(own, ctypes.c_char, len(argument), False))
         value = getattr(argument, "_obj", argument)
         if not isinstance(value, (ctypes.Array, ctypes.Structure)) and value is argument:
             return argument
-        block = self.place(ctypes.addressof(value), size_of(value, following))
-        self._written.append((value, block))
-        for offset, size in pointers(value, block.length):
-            member = ctypes.c_void_p.from_address(block.copy + offset)
-            if member.value:
-                own, length = member.value, ctypes.c_size_t.from_address(block.copy + offset + 8).value
-                self._read.append(self.place(own, length * size))
-                member.value = self._read[-1].copy
-        return ctypes.c_void_p(block.copy)
+        kind = value._type_ if isinstance(value, ctypes.Array) else type(value)
+        is_written = not isinstance(argument, ctypes.Structure)
+        return ctypes.c_void_p(self.put(ctypes.addressof(value), kind, size_of(value, following), is_written))
 
     def take_back(self) -> None:
         """Gives the caller what was written."""
-        for block in self._read:
-            same = ctypes.string_at(block.own, block.length) == ctypes.string_at(block.copy, block.length)
-            assert same, "bytes that are only read were written"
-        for value, block in self._written:
+        for block, before in self._read:
+            assert ctypes.string_at(block.copy, block.length) == before, "bytes that are only read were written"
+        for kind, block in self._written:
             ctypes.memmove(block.own, block.copy, block.length)
-            for offset, _ in pointers(value, block.length):
+            for offset, _ in pointers(kind, block.length):
                 member = ctypes.c_void_p.from_address(block.own + offset)
                 member.value = self.own_address(member.value)
 
@@ -94,30 +100,27 @@ def size_of(value: Any, following: Any) -> int:
     """The bytes that a call may use: so many elements of an array as the next argument says, if that is a number of elements."""
     if not isinstance(value, ctypes.Array) or not isinstance(following, ctypes.c_size_t):
         return ctypes.sizeof(value)
-    size, count = ctypes.sizeof(value._type_), following.value
-    # An array of bytes with room for kept epochs has these.
-    if size == 1 and count * KEPT <= len(value):
-        size = KEPT
-    return min(count * size, ctypes.sizeof(value))
+    return min(following.value * ctypes.sizeof(value._type_), ctypes.sizeof(value))
 
 
-def pointers(value: Any, length: int) -> Iterator[tuple[int, int]]:
-    """The places of pointers in a struct or in an array of structs whose next member is a length, and the size of what is counted."""
-    kind = value._type_ if isinstance(value, ctypes.Array) else type(value)
+def pointers(kind: Any, length: int) -> Iterator[tuple[int, Any]]:
+    """The places of such pointers in values of a type that take these bytes, and the types of what they point at."""
     if is_struct(kind):
         for start in range(0, length, ctypes.sizeof(kind)):
-            yield from ((start + place, size) for place, size in members(kind))
+            yield from ((start + place, of) for place, of in members(kind))
 
 
-def members(kind: Any) -> Iterator[tuple[int, int]]:
-    """The places of such pointers in a struct, and in the structs in it. A byte is counted, if the struct has no other size in `counted`."""
-    names, sizes = [it[0] for it in kind._fields_], getattr(kind, "counted", {})
-    for name, of in kind._fields_:
+def members(kind: Any) -> Iterator[tuple[int, Any]]:
+    """The places of such pointers in a struct, and in the structs in it, and the types of what they point at."""
+    fields = kind._fields_
+    for (name, of), (_, following) in zip(fields, [*fields[1:], (None, None)]):
         place = getattr(kind, name).offset
-        if f"{name}_length" in names:
-            yield place, sizes.get(name, 1)
-        elif is_struct(of):
-            yield from ((place + within, size) for within, size in members(of))
+        if is_struct(of):
+            yield from ((place + within, it) for within, it in members(of))
+        elif following is ctypes.c_size_t and issubclass(of, (ctypes.c_char_p, ctypes.c_void_p)):
+            yield place, ctypes.c_char
+        elif following is ctypes.c_size_t and issubclass(of, ctypes._Pointer):
+            yield place, of._type_
 
 
 def is_struct(kind: Any) -> bool:

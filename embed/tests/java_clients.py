@@ -14,9 +14,9 @@ TESTS = HOME / "src/test/java"
 def done(*words: object, **more: object) -> str:
     """What a command prints, which ends with status 0."""
     ran = run(*map(str, words), **more)
-    said = (ran.stdout + ran.stderr).decode()
-    assert ran.returncode == 0, said[-3000:]
-    return said
+    printed = (ran.stdout + ran.stderr).decode()
+    assert ran.returncode == 0, printed[-3000:]
+    return printed
 
 
 def package(room: Path) -> Path:

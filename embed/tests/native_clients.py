@@ -52,11 +52,11 @@ def check_example(program: Path, room: Path) -> None:
     chosen = looked_up()
     assert len(chosen) == 2, "cases with a key and without"
     for case, gives in chosen:
-        fed, asked = case["steps"][:2]
+        fed, requested = case["steps"][:2]
         parts = {"policy": case["policy"].encode(), "catch-up": bytes.fromhex("".join(fed["entries"]))}
-        for file, content in (parts | {"reply": bytes.fromhex(asked["reply"])}).items():
+        for file, content in (parts | {"reply": bytes.fromhex(requested["reply"])}).items():
             (room / file).write_bytes(content)
-        shown = bytes.fromhex(asked["name"]).decode()
+        shown = bytes.fromhex(requested["name"]).decode()
         words: list[Word] = [case["signing_key"], case["vrf_key"], room / "policy", room / "catch-up", shown, room / "reply"]
         ran = run(program, *words, str(gives["epoch"]))
         wanted = "absent" if gives["key"] is None else gives["key"]

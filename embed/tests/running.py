@@ -47,10 +47,10 @@ def compiled(room: Path, source: Path, *more: str) -> Path:
 
 def stack_of(room: Path, source: Path, say: Say) -> dict[str, int]:
     """The bytes of stack that a C program prints for each call, which are said too."""
-    said = run(compiled(room, source, "-std=c11", "-O2")).stdout.decode()
-    for line in said.splitlines():
+    printed = run(compiled(room, source, "-std=c11", "-O2")).stdout.decode()
+    for line in printed.splitlines():
         say(line)
-    return {name: int(bytes_) for name, bytes_ in re.findall(r"^(\w+): (\d+) bytes", said, re.M)}
+    return {name: int(bytes_) for name, bytes_ in re.findall(r"^(\w+): (\d+) bytes", printed, re.M)}
 
 
 def sanitizers(room: Path) -> list[str]:

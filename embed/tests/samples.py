@@ -144,7 +144,7 @@ def mutated(chance: Random, line: Line) -> Question:
     return given, name, bytes(proof)
 
 
-def said_by_program(program: str, questions: Sequence[Question]) -> list[Optional[str]]:
+def printed_by_program(program: str, questions: Sequence[Question]) -> list[Optional[str]]:
     """The result of `keydir check` for those whose bytes are proofs, as (status, key); None for the others."""
     lines, places = [], []
     for place, (given, name, proof) in enumerate(questions):
@@ -159,10 +159,10 @@ def said_by_program(program: str, questions: Sequence[Question]) -> list[Optiona
                 places.append(place)
     answers = run(program, "check", input="".join(f"{it}\n" for it in lines).encode()).stdout.splitlines()
     numbers = {name.replace("_", "").lower(): it for name, it in statuses().items()}
-    said: list[Optional[str]] = [None] * len(questions)
+    printed: list[Optional[str]] = [None] * len(questions)
     for place, answer in zip(places, map(json.loads, answers), strict=True):
         if "fault" in answer:
-            said[place] = str(numbers[answer["fault"].lower()])
+            printed[place] = str(numbers[answer["fault"].lower()])
         else:
-            said[place] = "1" if answer["answer"] == "absent" else f"0 {base64.b64decode(answer['key']).hex()}"
-    return said
+            printed[place] = "1" if answer["answer"] == "absent" else f"0 {base64.b64decode(answer['key']).hex()}"
+    return printed

@@ -92,11 +92,11 @@ def number_of(answer: dict[str, Any]) -> int:
 def of_check(chance: random.Random, program: str, lines: Sequence[samples.Line]) -> Iterator[Request]:
     """Requests to check proofs, with the program's result, or that of docs/FORMATS.md for other bytes."""
     questions = [samples.mutated(chance, chance.choice(lines)) for _ in range(COUNT)]
-    for question, theirs in zip(questions, samples.said_by_program(program, questions), strict=True):
+    for question, theirs in zip(questions, samples.printed_by_program(program, questions), strict=True):
         given, name, proof = question
-        said = str(samples.wire_status(proof) or theirs or "")
-        if said:
-            wanted = {"0": f"key {said[2:]}", "1": "absent"}.get(said.split()[0], f"refused {said}")
+        printed = str(samples.wire_status(proof) or theirs or "")
+        if printed:
+            wanted = {"0": f"key {printed[2:]}", "1": "absent"}.get(printed.split()[0], f"refused {printed}")
             yield " ".join(["check", *(given[it].hex() for it in ("nonce", "root", "index")), word(name), word(proof)]), wanted
     # More bytes than the memory with which the module for JavaScript begins.
     line = lines[0]
@@ -120,11 +120,11 @@ def of_audit(chance: random.Random, program: str) -> Iterator[Request]:
         for entry in chain(chance, 12):
             entries += [changed(chance, entry) for _ in range(chance.randrange(4))] + [entry]
         given = "".join(json.dumps({"entry": it.hex()}) + "\n" for it in entries).encode()
-        said = map(json.loads, run(program, "audit", "--key", KEY.hex(), input=given).stdout.splitlines())
+        printed = map(json.loads, run(program, "audit", "--key", KEY.hex(), input=given).stdout.splitlines())
         yield "begin", state_of(None)
         yield "head", "refused 49"
         last = None
-        for entry, answer in zip(entries, said, strict=True):
+        for entry, answer in zip(entries, printed, strict=True):
             follows = answer.get("ok") == "audit"
             yield f"feed {word(entry)} {verdict(entry)}", "follows" if follows else f"refused {number_of(answer)}"
             if follows:
@@ -147,8 +147,8 @@ def watched_lines(program: str) -> list[samples.Line]:
         ops += [op("register", "late", b"late")] if epoch == 6 else []
         script.append({"cmd": "batch", "epoch": epoch, "ops": ops} | ({"nonce": "22" * 32} if epoch == 9 else {}))
         script += [{"cmd": "lookup", "epoch": epoch, "name": it} for it in ("early", "late")]
-    said = run(program, "run", input="".join(json.dumps(it) + "\n" for it in script).encode()).stdout.splitlines()
-    return [it for it in map(json.loads, said) if it.get("ok") == "lookup"]
+    printed = run(program, "run", input="".join(json.dumps(it) + "\n" for it in script).encode()).stdout.splitlines()
+    return [it for it in map(json.loads, printed) if it.get("ok") == "lookup"]
 
 
 def of_monitor(chance: random.Random, program: str) -> Iterator[Request]:
@@ -172,11 +172,11 @@ def of_monitor(chance: random.Random, program: str) -> Iterator[Request]:
                 elif is_changed:
                     proof = samples.mutated(chance, line)[2]
                 status = samples.wire_status(proof)
-                told = {"entry": entry.hex(), "proof": line["proof"] if status else samples.object_of(proof)}
-                if told["proof"] is not None:
-                    given.append(told if status is None else {"entry": entry.hex()})
+                reported = {"entry": entry.hex(), "proof": line["proof"] if status else samples.object_of(proof)}
+                if reported["proof"] is not None:
+                    given.append(reported if status is None else {"entry": entry.hex()})
                     requests.append((f"step {word(entry)} {verdict(entry)} {word(proof)}", status))
-        said = run(
+        printed = run(
             program,
             "monitor",
             "--key",
@@ -185,7 +185,7 @@ def of_monitor(chance: random.Random, program: str) -> Iterator[Request]:
             mine[0]["name"],
             input="".join(json.dumps(it) + "\n" for it in given).encode(),
         )
-        for (request, status), answer in zip(requests, map(json.loads, said.stdout.splitlines()), strict=True):
+        for (request, status), answer in zip(requests, map(json.loads, printed.stdout.splitlines()), strict=True):
             if answer.get("ok") == "expect":
                 yield request, "expected"
             elif answer.get("ok") == "monitor":
@@ -237,9 +237,9 @@ def requests_of(program: str, lines: Sequence[samples.Line]) -> list[Request]:
 def check_requests(words: Sequence[Union[str, Path]], requests: Sequence[Request], **more: Any) -> None:
     """One side's replies to all requests."""
     ran = run(*words, input="".join(f"{it}\n" for it, _ in requests).encode(), **more)
-    said = ran.stdout.decode().splitlines()
-    wrong = [(*it, mine) for it, mine in zip(requests, said) if mine != it[1]]
-    assert len(said) == len(requests) and not wrong, (wrong[:2], ran.stderr.decode()[-500:])
+    printed = ran.stdout.decode().splitlines()
+    wrong = [(*it, mine) for it, mine in zip(requests, printed) if mine != it[1]]
+    assert len(printed) == len(requests) and not wrong, (wrong[:2], ran.stderr.decode()[-500:])
 
 
 def check_example(program: Path, words: Sequence[str], wanted: Sequence[str]) -> None:
@@ -251,8 +251,8 @@ def check_example(program: Path, words: Sequence[str], wanted: Sequence[str]) ->
 
 def go_environment(here: Path) -> dict[str, str]:
     """The environment of a command of Go in a copy of the checkout: nothing is fetched."""
-    kept = {it: value for it, value in os.environ.items() if not it.startswith("CGO_")}
-    return kept | {"GOCACHE": str(here / "cache"), "GOFLAGS": "", "GOPROXY": "off"}
+    stored = {it: value for it, value in os.environ.items() if not it.startswith("CGO_")}
+    return stored | {"GOCACHE": str(here / "cache"), "GOFLAGS": "", "GOPROXY": "off"}
 
 
 def example_of(lines: Sequence[samples.Line]) -> Example:

@@ -50,17 +50,17 @@ def test_build_without_rt(tmp_path: Path, unproved: str, name: str) -> None:
     for it in ("embed/build", "crates.txt", *(f"include/{it}" for it in HEADERS), *(f"scripts/{it}" for it in BUILDING)):
         (tmp_path / it).parent.mkdir(exist_ok=True)
         shutil.copy(TOP / it, tmp_path / it)
-    kept = [it for it in os.environ["PATH"].split(os.pathsep) if not (Path(it) / "rt").exists()]
-    ran = run(tmp_path / "embed/build", env=os.environ | {"PATH": os.pathsep.join(kept), "CONIKS_UNPROVED": unproved})
-    said = ran.stderr.decode()
-    assert ran.returncode == 1 and said.startswith(f"{name}: rt isn't on the search path") and said.count("\n") == 1, said
+    stored = [it for it in os.environ["PATH"].split(os.pathsep) if not (Path(it) / "rt").exists()]
+    ran = run(tmp_path / "embed/build", env=os.environ | {"PATH": os.pathsep.join(stored), "CONIKS_UNPROVED": unproved})
+    printed = ran.stderr.decode()
+    assert ran.returncode == 1 and printed.startswith(f"{name}: rt isn't on the search path") and printed.count("\n") == 1, printed
     assert not list((tmp_path / "embed/out").iterdir()), "nothing is made"
 
 
 def test_names() -> None:
     lines = run("nm", ARCHIVE).stdout.decode().split("\n")
-    asked = {it.split()[-1] for it in lines if " U " in it}
-    assert asked <= MAY_ASK, "the archive asks for three functions at most"
+    requested = {it.split()[-1] for it in lines if " U " in it}
+    assert requested <= MAY_ASK, "the archive asks for three functions at most"
     given = {it.split()[-1] for it in lines if re.search(" [TDBRVW] ", it)}
     assert given == declared(), "the archive's names are those of the header"
     exported = run("nm", "-D", "--defined-only", SHARED).stdout.decode().split("\n")
@@ -79,7 +79,7 @@ def test_header(tmp_path: Path, standard: str) -> None:
         "coniks_bytes145": 145,
         "coniks_auditor": 80,
         "coniks_body": 152,
-        "coniks_kept": 218,
+        "coniks_stored_entry": 218,
         "coniks_found": 32,
         "coniks_guard_record": 364,
     }
@@ -182,8 +182,8 @@ def test_check_lookup(tmp_path: Path, keydir: str, lines: Sequence[samples.Line]
     import coniks
 
     example = compiled(tmp_path, EMBED / "c/check_lookup.c")
-    said = run(keydir, "check", input="".join(f"{json.dumps(it)}\n" for it in lines).encode()).stdout.splitlines()
-    for line, answer in zip(lines, map(json.loads, said), strict=True):
+    printed = run(keydir, "check", input="".join(f"{json.dumps(it)}\n" for it in lines).encode()).stdout.splitlines()
+    for line, answer in zip(lines, map(json.loads, printed), strict=True):
         ran = run(example, line["nonce"], line["root"], line["index"], line["name"], input=coniks.proof_bytes(line["proof"]))
         wanted = base64.b64decode(answer["key"]).hex() if answer.get("answer") == "key" else answer.get("answer")
         assert (ran.stdout.decode().strip(), ran.returncode) == (wanted, 0), line["name"]
@@ -206,8 +206,8 @@ def test_header_line(tmp_path: Path) -> None:
 
 def test_audit_signed(tmp_path: Path) -> None:
     needs("the headers of OpenSSL")
-    said = run(compiled(tmp_path, EMBED / "c/audit_signed.c")).stdout.decode()
-    assert said == (EMBED / "c/audit_signed.out").read_text("utf-8")
+    printed = run(compiled(tmp_path, EMBED / "c/audit_signed.c")).stdout.decode()
+    assert printed == (EMBED / "c/audit_signed.out").read_text("utf-8")
 
 
 def test_exports(tmp_path: Path, lines: Sequence[samples.Line], pytestconfig: pytest.Config) -> None:
@@ -217,10 +217,10 @@ def test_exports(tmp_path: Path, lines: Sequence[samples.Line], pytestconfig: py
     for done in range(0, count, 20000):
         calls = [model.some_call(chance, lines) for _ in range(min(count - done, 20000))]
         ran = run(driver, input=b"".join(model.record(*it) for it in calls))
-        said = [it.rstrip() for it in ran.stdout.decode().splitlines()]
+        printed = [it.rstrip() for it in ran.stdout.decode().splitlines()]
         wanted = [model.answer(*it).rstrip() for it in calls for _ in range(2)]
-        wrong = [(calls[it // 2], mine, theirs) for it, (mine, theirs) in enumerate(zip(said, wanted)) if mine != theirs]
-        assert ran.returncode == 0 and len(said) == len(wanted) and not wrong, (ran.stderr.decode()[:2000], wrong[:2])
+        wrong = [(calls[it // 2], mine, theirs) for it, (mine, theirs) in enumerate(zip(printed, wanted)) if mine != theirs]
+        assert ran.returncode == 0 and len(printed) == len(wanted) and not wrong, (ran.stderr.decode()[:2000], wrong[:2])
         called.update(it[0] for it in calls)
     assert called == set(range(len(declared(HEADER)))), "every export is called"
 
@@ -232,11 +232,11 @@ def record_of(question: samples.Question) -> bytes:
     return sizes + given["nonce"] + given["root"] + given["index"] + name + proof
 
 
-def asked(chance: random.Random, program: str, lines: Sequence[samples.Line], count: int) -> list[tuple[bytes, str]]:
+def requested(chance: random.Random, program: str, lines: Sequence[samples.Line], count: int) -> list[tuple[bytes, str]]:
     """Random and mutated proofs, each with its result: that of docs/FORMATS.md for bytes that are no proof, else the program's."""
     questions = [samples.mutated(chance, chance.choice(lines)) for _ in range(count)]
-    said = samples.said_by_program(program, questions)
-    wanted = [str(samples.wire_status(it[2]) or "") or theirs or "" for it, theirs in zip(questions, said, strict=True)]
+    printed = samples.printed_by_program(program, questions)
+    wanted = [str(samples.wire_status(it[2]) or "") or theirs or "" for it, theirs in zip(questions, printed, strict=True)]
     return [(record_of(it), answer) for it, answer in zip(questions, wanted)]
 
 
@@ -245,34 +245,34 @@ def test_answers(tmp_path: Path, keydir: str, lines: Sequence[samples.Line], pyt
     chance, sanitized = random.Random(SEED), compiled(
         tmp_path, EMBED / "c/answers.c", "-std=c99", "-O1", "-g", *sanitizers(tmp_path)
     )
-    told: dict[str, int] = {}
+    reported: dict[str, int] = {}
     count = pytestconfig.getoption("proofs")
     for done in range(0, count, 20000):
-        given = asked(chance, keydir, lines, min(count - done, 20000))
+        given = requested(chance, keydir, lines, min(count - done, 20000))
         ran = run(sanitized, input=b"".join(record for record, _ in given))
-        said = ran.stdout.decode().splitlines()
-        assert (ran.returncode, len(said)) == (0, len(given)), ran.stderr.decode()[:2000]
-        wrong = [it for it, mine in zip(given, said) if it[1] not in ("", mine)]
+        printed = ran.stdout.decode().splitlines()
+        assert (ran.returncode, len(printed)) == (0, len(given)), ran.stderr.decode()[:2000]
+        wrong = [it for it, mine in zip(given, printed) if it[1] not in ("", mine)]
         assert not wrong, wrong[:3]
-        for it in said:
-            told[it.split()[0]] = told.get(it.split()[0], 0) + 1
-    say(f"statuses of {count} proofs: " + ", ".join(f"{it} {told[it]}" for it in sorted(told, key=int)))
+        for it in printed:
+            reported[it.split()[0]] = reported.get(it.split()[0], 0) + 1
+    say(f"statuses of {count} proofs: " + ", ".join(f"{it} {reported[it]}" for it in sorted(reported, key=int)))
 
 
 def test_answers_under_valgrind(tmp_path: Path, keydir: str, lines: Sequence[samples.Line]) -> None:
     needs("valgrind")
     plain = compiled(tmp_path, EMBED / "c/answers.c", "-std=c99", "-O1", "-g")
-    given = asked(random.Random(SEED), keydir, lines, 1000)
+    given = requested(random.Random(SEED), keydir, lines, 1000)
     ran = run("valgrind", "-q", "--error-exitcode=9", plain, input=b"".join(record for record, _ in given))
-    said = ran.stdout.decode().splitlines()
-    assert (ran.returncode, len(said)) == (0, len(given)), ran.stderr.decode()[:2000]
-    assert not [it for it, mine in zip(given, said) if it[1] not in ("", mine)]
+    printed = ran.stdout.decode().splitlines()
+    assert (ran.returncode, len(printed)) == (0, len(given)), ran.stderr.decode()[:2000]
+    assert not [it for it, mine in zip(given, printed) if it[1] not in ("", mine)]
 
 
 def test_stack(tmp_path: Path, say: Say) -> None:
     """A check takes at most 8,192 bytes of stack."""
-    said = run(compiled(tmp_path, EMBED / "c/stack.c", "-std=c11", "-O2")).stdout.decode()
-    taken = [int(it) for it in re.findall(r": (\d+) bytes", said)]
-    assert len(taken) == 3 and max(taken) <= STACK, said
-    for line in said.splitlines():
+    printed = run(compiled(tmp_path, EMBED / "c/stack.c", "-std=c11", "-O2")).stdout.decode()
+    taken = [int(it) for it in re.findall(r": (\d+) bytes", printed)]
+    assert len(taken) == 3 and max(taken) <= STACK, printed
+    for line in printed.splitlines():
         say(line)

@@ -66,11 +66,11 @@ def test_example(here: Path, tmp_path: Path) -> None:
         file.write_bytes(bytes.fromhex(digits))
     words = [data / "policy.txt", tmp_path / "client.state"]
 
-    def told(catch_up: str, name: str, reply: str, *epoch: str) -> tuple[int, str]:
+    def reported(catch_up: str, name: str, reply: str, *epoch: str) -> tuple[int, str]:
         ran = run(program, *words, files[catch_up], name, files[reply], *epoch)
         return ran.returncode, (ran.stdout or ran.stderr).decode().split(":")[0].strip()
 
-    assert told("catch-up", "alice", "reply", "2") == (0, b"k".hex())
-    assert told("later", "alice", "reply", "2") == (0, b"k".hex()), "from its state"
-    assert told("later", "alice", "reply") == (1, "the latest epoch is too old by the policy's clock")
-    assert told("later", "alice", "other", "2") == (1, "the root computed from the proof isn't the expected root")
+    assert reported("catch-up", "alice", "reply", "2") == (0, b"k".hex())
+    assert reported("later", "alice", "reply", "2") == (0, b"k".hex()), "from its state"
+    assert reported("later", "alice", "reply") == (1, "the latest epoch is too old by the policy's clock")
+    assert reported("later", "alice", "other", "2") == (1, "the root computed from the proof isn't the expected root")

@@ -56,9 +56,9 @@ def examples(room: Path) -> Path:
 def test_calls(archive: Path, tmp_path: Path) -> None:
     """All checks pass, and the JVM warns of nothing."""
     words = command(compiled(tmp_path, archive), "org.coniks.tests.Calls", *HEAP)
-    said = done(*words, examples(tmp_path / "examples"))
-    told = re.fullmatch(r"(\d+) checks passed, 0 failed\n", said)
-    assert told and int(told[1]) > 3000, said[-2000:]
+    printed = done(*words, examples(tmp_path / "examples"))
+    reported = re.fullmatch(r"(\d+) checks passed, 0 failed\n", printed)
+    assert reported and int(reported[1]) > 3000, printed[-2000:]
 
 
 def test_example(archive: Path, tmp_path: Path) -> None:

@@ -20,18 +20,15 @@ CORE = """
 
 extern uint32_t my_verify(const uint8_t *entry), my_alarm(size_t place), my_wait(size_t place);
 extern uint32_t my_vrf(const uint8_t *name, size_t name_length, const uint8_t *proof, size_t length, coniks_bytes32 *index);
+extern uint64_t my_time(void);
+extern const uint8_t *name, *reply, *state;
+extern size_t name_length, reply_length, state_length, auditors, faulty, place;
+extern uint64_t epoch;
+extern coniks_bytes32 link;
 
-uint32_t example(coniks_bytes32 policy, coniks_present present, coniks_kept *kept, size_t room, size_t count, coniks_watch watch,
-                 coniks_change *changes, size_t change_room, size_t change_count, const uint8_t *name, size_t name_length,
-                 const uint8_t *reply, size_t reply_length, const uint8_t *state, size_t state_length, uint64_t *marks,
-                 size_t auditors, size_t faulty, size_t place, uint64_t epoch, coniks_bytes32 link, coniks_promise promise,
-                 coniks_alarm *alarms, size_t alarm_room, size_t alarm_count, coniks_bytes32 trust);
+uint32_t example(coniks_core core);
 
-uint32_t example(coniks_bytes32 policy, coniks_present present, coniks_kept *kept, size_t room, size_t count, coniks_watch watch,
-                 coniks_change *changes, size_t change_room, size_t change_count, const uint8_t *name, size_t name_length,
-                 const uint8_t *reply, size_t reply_length, const uint8_t *state, size_t state_length, uint64_t *marks,
-                 size_t auditors, size_t faulty, size_t place, uint64_t epoch, coniks_bytes32 link, coniks_promise promise,
-                 coniks_alarm *alarms, size_t alarm_room, size_t alarm_count, coniks_bytes32 trust)
+uint32_t example(coniks_core core)
 {
     coniks_found found = {0};
     coniks_why why = {0};

@@ -16,20 +16,19 @@ import core_client as core
 from client import Alarm, Client, Trust
 from bytelists import number, sha256
 from client_world import BATCHES, POLICY, SIGNING_KEY, VRF_KEY, World, hour
-from core_client import LIBRARY, SIZE, U32, U64, Memory, RawAlarm, RawCovered, RawPromise, RawReport, known, of, passed, present_of
+from core_client import EMPTY, LIBRARY, SIZE, STORED, U32, U64, Memory, bytes32, of, parts_of, passed, sized
+from core_states import size_of, written
 from members import Fault
 from policy import Policy
+from coniks import _core as raw
 
-WORLD = World(BATCHES)
+WORLD, FORK = World(BATCHES), World(BATCHES, rotated=2)
 OTHER = sha256(b"the link of another chain")
-GOOD, NOT_WATCHING, NO_ROOM, NO_AUDITOR, NOT_CONFIRMED, HAS_ENTRIES, NO_QUORUM, MANY_HEADS = 0, 133, 137, 138, 139, 140, 141, 142
+GOOD, NO_REPLY, NO_HISTORY, NAME = 0, 64, 69, 130
+NOT_WATCHING, NO_ROOM, NO_AUDITOR, NOT_CONFIRMED, HAS_ENTRIES, NO_QUORUM, MANY_HEADS = 133, 137, 138, 139, 140, 141, 142
 
 # An auditor's head: its epoch and its link.
 Head = tuple[int, bytes]
-
-
-class RawHead(ctypes.Structure):
-    _fields_ = [("is_there", U32), ("epoch", U64), ("link", ctypes.c_uint8 * 32)]
 
 
 LIBRARY.coniks_core_quorum.function.restype = SIZE
@@ -40,8 +39,9 @@ def _built(embedded: None) -> Iterator[None]:
     yield
 
 
-def marks_of(marks: Sequence[int]) -> Any:
-    return (U64 * len(marks))(*marks)
+def memory_of(client: Client, marks: Sequence[int], quorum: int = 1) -> Memory:
+    """The memory of a client with these marks."""
+    return Memory(raw.Rules(quorum=quorum), parts_of(client)._replace(marks=[*marks]))
 
 
 def confirmed(marks: Sequence[int], quorum: int) -> Optional[int]:
@@ -76,7 +76,8 @@ def test_confirmed() -> None:
     for _ in range(3000):
         marks = [chance.choice([0, 1, 2, 5, 7, 2**64 - 1]) for _ in range(chance.randrange(6))]
         quorum, epoch = chance.randrange(7), U64(77)
-        status = LIBRARY.coniks_core_confirmed(marks_of(marks), SIZE(len(marks)), SIZE(quorum), of(epoch))
+        memory = Memory(raw.Rules(quorum=quorum), EMPTY._replace(marks=marks))
+        status = LIBRARY.coniks_core_confirmed(memory.core, of(epoch))
         wanted = confirmed(marks, quorum)
         assert (status, epoch.value) == ((NOT_CONFIRMED, 77) if wanted is None else (GOOD, wanted)), (marks, quorum)
 
@@ -84,29 +85,26 @@ def test_confirmed() -> None:
 def test_mark() -> None:
     """A mark is raised if a head is equal, and never falls."""
     client = client_with(1, 2, 3, 5)
-    memory = Memory(client)
     for epoch in range(8):
         for link in [WORLD.link(epoch) if epoch in WORLD.epochs else OTHER, OTHER]:
             wanted = client.compare(epoch, link)["compare"]
             for place in range(4):
-                marks = marks_of([0, 4, 9])
-                told = LIBRARY.coniks_core_mark(memory.kept, memory.count, marks, SIZE(3), SIZE(place), U64(epoch), link)
+                memory = memory_of(client, [0, 4, 9])
+                reported = LIBRARY.coniks_core_mark(of(memory.core), SIZE(place), U64(epoch), link)
                 raised = [max(it, epoch) if wanted == "equal" and at == place else it for at, it in enumerate([0, 4, 9])]
-                assert list(marks) == raised, (epoch, place, told)
-                assert told == NO_AUDITOR if place == 3 else core.COMPARED[told] == wanted, (epoch, place, told)
+                assert memory.parts().marks == raised, (epoch, place, reported)
+                assert reported == NO_AUDITOR if place == 3 else core.COMPARED[reported] == wanted, (epoch, place, reported)
 
 
 def test_relied() -> None:
-    memory, epochs = Memory(client_with(1, 2, 3, 5)), [1, 2, 3, 5]
+    client, epochs = client_with(1, 2, 3, 5), [1, 2, 3, 5]
     for marks in list[Sequence[int]]([[], [0, 0, 0], [3, 3, 3], [5, 2, 2], [5, 5, 1]]):
         for quorum in range(4):
-            top = confirmed(marks, quorum)
+            top, memory = confirmed(marks, quorum), memory_of(client, marks, quorum)
             for place in range(6):
-                told = LIBRARY.coniks_core_relied(
-                    memory.kept, memory.count, SIZE(place), marks_of(marks), SIZE(len(marks)), SIZE(quorum)
-                )
+                reported = LIBRARY.coniks_core_relied(memory.core, SIZE(place))
                 wanted = second.NUMBERS["UnknownEpoch"] if place > 3 else GOOD if top and epochs[place] <= top else NOT_CONFIRMED
-                assert told == wanted, (marks, quorum, place)
+                assert reported == wanted, (marks, quorum, place)
 
 
 def started(
@@ -116,16 +114,17 @@ def started(
     is_valid: bool = True,
     room: int = 1,
     count: int = 0,
-    watch: Optional[core.Watch] = None,
-) -> tuple[int, bytes, int, core.Why]:
-    """A start: its status, what is kept, the number of kept epochs, and why it was refused."""
-    raw = (RawHead * len(heads))(*(RawHead(1, it[0], (ctypes.c_uint8 * 32)(*it[1])) if it else RawHead(2, 9) for it in heads))
-    kept, counted, why = ctypes.create_string_buffer(b"\7" * room * core.KEPT, room * core.KEPT), SIZE(count), core.Why(7, 7, 7)
-    status = LIBRARY.coniks_core_start(
-        Policy.read(POLICY.encode()).digest, kept, SIZE(room), of(counted), of(watch or core.Watch()), raw, SIZE(len(heads)),
-        SIZE(quorum), *passed(entry), U32(is_valid), U64(hour(6)), of(why),
-    )  # fmt: skip
-    return status, kept.raw, counted.value, why
+    watch: Optional[tuple[bytes, int, bytes]] = None,
+) -> tuple[int, bytes, int, raw.Why]:
+    """A start: its status, what is kept, the number of stored epochs, and why it was refused."""
+    signed_heads = (raw.Head * len(heads))(*(raw.Head(1, it[0], bytes32(it[1])) if it else raw.Head(2, 9) for it in heads))
+    rules = raw.Rules(bytes32(Policy.read(POLICY.encode()).digest), quorum=quorum)
+    memory, why = Memory(rules, EMPTY._replace(watch=watch), stored=room), raw.Why(7, 7, 7)
+    stored, received = memory.core.stored, raw.Received(*sized(entry), is_valid, hour(6))
+    ctypes.memset(stored.items, 7, room * STORED)
+    stored.count = count
+    status = LIBRARY.coniks_core_start(of(memory.core), signed_heads, SIZE(len(heads)), received, of(why))
+    return status, ctypes.string_at(stored.items, room * STORED), stored.count, why
 
 
 def test_start() -> None:
@@ -136,16 +135,16 @@ def test_start() -> None:
         choices: list[Optional[Head]] = [*[(epoch, WORLD.link(epoch))] * 6, (2, WORLD.link(2)), (4, OTHER), None]
         heads = [chance.choice([*choices, *[(epoch, OTHER)] * (chance.random() < 0.3)]) for _ in range(chance.randrange(8))]
         quorum, client = chance.randrange(1, 6), client_with()
-        status, kept, count, why = started(WORLD[epoch], heads, quorum)
+        status, stored, count, why = started(WORLD[epoch], heads, quorum)
         statuses.add(status)
         try:
             client.begin_with(WORLD[epoch], [it for it in heads if it], quorum, hour(6))
         except Fault as fault:
-            assert status == second.NUMBERS[str(fault.answer["fault"])] and (kept, count) == (b"\7" * core.KEPT, 0), heads
+            assert status == second.NUMBERS[str(fault.answer["fault"])] and (stored, count) == (b"\7" * STORED, 0), heads
             first = next((at for at, it in enumerate(heads) if it == (epoch, OTHER)), 0)
             assert (why.status, why.kind, why.mine) == (0, 0, first), heads
         else:
-            assert (status, count, kept) == (GOOD, 1, WORLD[epoch] + number(hour(6), 8) + b"\0"), heads
+            assert (status, count, stored) == (GOOD, 1, WORLD[epoch] + number(hour(6), 8) + b"\0"), heads
             assert (why.status, why.kind, why.mine) == (7, 7, 7), heads
     assert statuses == {GOOD, 104, 105}
 
@@ -166,17 +165,16 @@ def test_start_is_refused_in_this_order() -> None:
         (104, started(entry, [head], 2)),
         (GOOD, started(entry, [head] * 64, 64)),
     ]:
-        told, kept, count, _ = calls
-        assert told == status, (told, status)
+        reported, stored, count, _ = calls
+        assert reported == status, (reported, status)
         if status:
-            assert kept == b"\7" * len(kept) and count == (1 if status == HAS_ENTRIES else 0), status
+            assert stored == b"\7" * len(stored) and count == (1 if status == HAS_ENTRIES else 0), status
 
 
 def test_start_of_a_watched_name() -> None:
     """The first epoch is missing if the name is watched there."""
     for since, seen in [(1, 5), (3, 5), (4, 0)]:
-        watch = core.Watch(1, b"alice", 5, since, b"k", 1)
-        assert started(WORLD[3], [(3, WORLD.link(3))], 1, watch=watch)[1][-1] == seen, since
+        assert started(WORLD[3], [(3, WORLD.link(3))], 1, watch=(b"alice", since, b"k"))[1][-1] == seen, since
 
 
 def watching(chance: random.Random, numbers: Sequence[int], quorum: int = 1) -> core.Beside:
@@ -189,7 +187,7 @@ def watching(chance: random.Random, numbers: Sequence[int], quorum: int = 1) -> 
     assert client.watched
     changes = [second.Change(1, 2, b"l"), second.Change(3, 4, b"m"), second.Change(5, 7, b"n")]
     client.watched = second.Watch(b"alice", client.watched.since, b"k", tuple(changes[: chance.randrange(4)]))
-    for it in client.kept:
+    for it in client.stored:
         it.seen = chance.choice(numbers) if it.entry.epoch >= client.watched.since else second.UNWATCHED
     client.marks = [chance.choice([0, 2, 3, 5, 6]) for _ in range(4)]
     client.policy = replace(client.policy, proofs_kept=chance.choice([None, 0, 3600, 10**6]))
@@ -210,24 +208,91 @@ def test_cover() -> None:
     assert dropped == {0, 1, 2, 3, 4} and left >= {0, 1, 2, 3}
 
 
+def full() -> core.Beside:
+    """A client with five epochs, three changes and two alarms."""
+    client = watching(random.Random(4), [3])
+    changes = second.Change(1, 2, b"l"), second.Change(3, 4, b"m"), second.Change(5, 7, b"n")
+    client.watched, client.alarms = second.Watch(b"alice", 1, b"k", changes), [Alarm(7, 3), Alarm(8, 3)]
+    return client
+
+
 def test_cover_beyond_the_room() -> None:
     """Counts beyond the arrays, and no room for an alarm: nothing is written."""
-    for kept, changes, room in [(4, 3, 7), (5, 2, 7), (5, 3, 1), (5, 3, 4)]:
-        client = watching(random.Random(4), [3])
-        client.watched = second.Watch(
-            b"alice", 1, b"k", (second.Change(1, 2, b"l"), second.Change(3, 4, b"m"), second.Change(5, 7, b"n"))
-        )
-        client.alarms = [Alarm(7, 3), Alarm(8, 3)]
-        memory, covered = Memory(client), RawCovered(7, 7, 7, 7, 7)
-        before = bytes(memory.kept), bytes(memory.changes), bytes(memory.watch), bytes(memory.alarms)
-        present, limit = present_of(client, hour(9))
-        status = LIBRARY.coniks_core_cover(
-            of(present), of(limit), memory.kept, SIZE(kept), of(memory.count), marks_of([5]), SIZE(1), SIZE(1), of(memory.watch),
-            memory.changes, SIZE(changes), of(memory.change_count), memory.alarms, SIZE(room), of(memory.alarm_count), of(covered),
-        )  # fmt: skip
-        counts = memory.count.value, memory.change_count.value, memory.alarm_count.value
-        assert status == NO_ROOM and (*counts, covered.epochs) == (5, 3, 2, 7)
-        assert (bytes(memory.kept), bytes(memory.changes), bytes(memory.watch), bytes(memory.alarms)) == before
+    for stored, changes, room in [(4, 3, 7), (5, 2, 7), (5, 3, 1), (5, 3, 4)]:
+        client = full()
+        memory, covered = Memory(core.rules_of(client), parts_of(client)._replace(marks=[5]), alarms=5), raw.Covered(7, 7, 7, 7, 7)
+        it = memory.core
+        it.rules.quorum, it.stored.room, it.changes.room, it.alarms.room = 1, stored, changes, room
+        before = memory.whole(), memory.all()
+        assert memory.covers(hour(9), covered) == NO_ROOM and covered.epochs == 7
+        assert (it.stored.count, it.changes.count, it.alarms.count) == (5, 3, 2)
+        assert (memory.whole(), memory.all()) == before
+
+
+# Rooms that are smaller than the counts of `full`.
+SMALL = [(4, 3, 2), (5, 2, 2), (5, 3, 1), (0, 0, 0)]
+
+
+def cut(rooms: tuple[int, int, int], is_beyond: bool) -> Memory:
+    """The client of `full` with so many epochs, changes and alarms; if its counts are beyond the rooms, they are as they were."""
+    client = full()
+    stored, changes, alarms = rooms
+    parts, rules = parts_of(client), core.rules_of(client)
+    if is_beyond:
+        memory = Memory(rules, parts)
+        memory.core.stored.room, memory.core.changes.room, memory.core.alarms.room = rooms
+        return memory
+    kept = parts._replace(stored=parts.stored[: stored * STORED], changes=parts.changes[:changes], alarms=parts.alarms[:alarms])
+    return Memory(rules, kept)
+
+
+def given_by(memory: Memory) -> list[Any]:
+    """What the calls write and return that only read a client, and what coniks_core_mark does."""
+    given, reported = list[Any](), raw.Report(7, 7, 7)
+    for epoch in WORLD.epochs:
+        link, place, why, needs = WORLD.link(epoch), SIZE(9), raw.Why(7, 7, 7), raw.Needs(7, 7, 7, 7)
+        given += [LIBRARY.coniks_core_compare(memory.core, U64(epoch), link, of(place)), place.value]
+        given += [LIBRARY.coniks_core_evidence(memory.core, raw.Received(*sized(FORK[epoch]), 1, 0), of(why)), bytes(why)]
+        given += [LIBRARY.coniks_core_reply_needs(memory.core, *passed(b"\1" + WORLD[epoch] + bytes(2)), of(needs)), bytes(needs)]
+    for at in range(7):
+        given += [LIBRARY.coniks_core_relied(memory.core, SIZE(at)), LIBRARY.coniks_core_lost(memory.core, U64(hour(9)), SIZE(at))]
+    given += [LIBRARY.coniks_core_report(memory.core, U64(hour(9)), of(reported)), bytes(reported)]
+    given += [*size_of(memory), written(memory, size_of(memory)[1])]
+    given += [LIBRARY.coniks_core_mark(of(memory.core), SIZE(0), U64(it), WORLD.link(it)) for it in WORLD.epochs]
+    return [*given, memory.core.marks[0]]
+
+
+@pytest.mark.parametrize("rooms", SMALL)
+def test_reads_beyond_the_rooms(rooms: tuple[int, int, int]) -> None:
+    """Calls that only read a client read as many items as there is room for, if a count is greater."""
+    assert given_by(cut(rooms, True)) == given_by(cut(rooms, False)) != given_by(cut((5, 3, 2), False))
+
+
+def marked_by(memory: Memory) -> list[int]:
+    """What the calls return that mark a client: an empty reply, an empty history, and a name that is watched from now on, after one of no
+    byte. What they may write was 7, and is as it was if they give up."""
+    found, why, steps = raw.Found(7, 7, 7, 7, 7), raw.Why(7, 7, 7), raw.Steps((raw.Step * 9)(), 9, 7)
+    core, verdicts, asking = of(memory.core), of(raw.Verdicts(1, 1)), raw.Asking(*sized(b"alice"), *sized(b""), 0, 0, hour(9))
+    written = bytes(found), bytes(why), bytes(steps), memory.whole()
+    statuses = [LIBRARY.coniks_core_lookup(core, of(asking), verdicts, of(found), of(why))]
+    history = raw.History(*sized(b"alice"), *sized(b""))
+    statuses += [LIBRARY.coniks_core_history(core, of(history), verdicts, of(raw.Siblings()), of(steps))]
+    assert statuses[0] != NO_ROOM or (bytes(found), bytes(why), bytes(steps), memory.whole()) == written
+    memory.core.watch, key = raw.Watch(), memory.placed(b"k")
+    for name in (b"", b"bob"):
+        before = memory.whole()
+        wanted = raw.Watch(1, *memory.placed(name), 1, *key)
+        statuses += [LIBRARY.coniks_core_watch(core, of(wanted), U32(1))]
+        assert statuses[-1] == GOOD or memory.whole() == before
+    return statuses
+
+
+@pytest.mark.parametrize("rooms", [(5, 3, 2), *SMALL])
+def test_marks_beyond_the_rooms(rooms: tuple[int, int, int]) -> None:
+    """Calls that mark a client give up if a count is greater than its room: a lookup and a history at once."""
+    assert marked_by(cut(rooms, True)) == (
+        [NO_REPLY, NO_HISTORY, NAME, GOOD] if rooms == (5, 3, 2) else [NO_ROOM, NO_ROOM, NAME, NO_ROOM]
+    )
 
 
 def test_note() -> None:
@@ -236,9 +301,9 @@ def test_note() -> None:
         client = watching(chance, [1])
         client.alarms = [Alarm(it, chance.choice([3, 4, 5])) for it in sorted(chance.sample(range(9), chance.randrange(6)))]
         client.note(chance.randrange(10))
-    alarms, count = (RawAlarm * 2)(RawAlarm(1, 3), RawAlarm(2, 5)), SIZE(2)
-    assert LIBRARY.coniks_core_note(alarms, SIZE(1), of(count), U64(9)) == NO_ROOM
-    assert count.value == 2 and known(alarms, 2) == [Alarm(1, 3), Alarm(2, 5)]
+    memory = Memory(raw.Rules(), EMPTY._replace(alarms=[(1, 3), (2, 5)]))
+    memory.core.alarms.room = 1
+    assert LIBRARY.coniks_core_note(of(memory.core), U64(9)) == NO_ROOM and memory.all() == memory.before
 
 
 def test_report() -> None:
@@ -254,9 +319,6 @@ def test_report() -> None:
 
 
 def test_report_without_a_watch() -> None:
-    memory, told = Memory(client_with(1, 2)), RawReport(7, 7, 7)
-    status = LIBRARY.coniks_core_report(
-        of(core.Present()), memory.kept, memory.count, of(memory.watch), of(RawPromise()), (RawAlarm * 0)(), SIZE(0), marks_of([2]),
-        SIZE(1), SIZE(1), of(told),
-    )  # fmt: skip
-    assert (status, told.verdict, told.start, told.end) == (NOT_WATCHING, 7, 7, 7)
+    memory, reported = memory_of(client_with(1, 2), [2]), raw.Report(7, 7, 7)
+    status = LIBRARY.coniks_core_report(memory.core, U64(0), of(reported))
+    assert (status, reported.verdict, reported.first, reported.last) == (NOT_WATCHING, 7, 7, 7)

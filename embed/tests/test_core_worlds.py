@@ -18,10 +18,10 @@ COUNTED_WITH_LOST = {2: (1015, 980, 569), 3: (16958, 21881, 12438), 4: (221169, 
 
 def counts(worlds: Path, epochs: int, keys: str, say: Say, *words: str) -> tuple[int, ...]:
     ran = run(worlds, str(epochs), keys, *words)
-    said = ran.stdout.decode()
-    assert ran.returncode == 0, said or ran.stderr.decode()
-    say(f"all histories of {' '.join([str(epochs), 'epochs with the keys', keys, *words])}: {said.strip()}")
-    return tuple(map(int, re.findall(r"\d+", said)))
+    printed = ran.stdout.decode()
+    assert ran.returncode == 0, printed or ran.stderr.decode()
+    say(f"all histories of {' '.join([str(epochs), 'epochs with the keys', keys, *words])}: {printed.strip()}")
+    return tuple(map(int, re.findall(r"\d+", printed)))
 
 
 def test_worlds(embedded: None, tmp_path: Path, pytestconfig: pytest.Config, say: Say) -> None:

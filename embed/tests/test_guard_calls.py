@@ -18,7 +18,7 @@ from running import EMBED, SHARED, TOP, Say, stack_of
 
 from coniks import _Bytes145, _guarding
 from coniks._formats import GuardRefusal as Refusal
-from coniks._guarding import Bytes64, Record, Said, StepRefused
+from coniks._guarding import Bytes64, Record, Reply, StepRefused
 
 CALLS = {"answer", "ask", "sign", "abandon", "adopt"}
 STACK = 8192
@@ -96,9 +96,9 @@ class Walk:
             if self.record.signed != record.signed:
                 self.entries.append(self.record.signed)
         for it in (body, *self.bodies[-3:]):
-            said, found = self.record.answer(it)
-            assert (said.value, found) == second.answer(second.Record(*astuple(self.record)), it), (self.record, it)
-            self.counted[f"answer {said.value}"] += 1
+            printed, found = self.record.answer(it)
+            assert (printed.value, found) == second.answer(second.Record(*astuple(self.record)), it), (self.record, it)
+            self.counted[f"answer {printed.value}"] += 1
 
     def exchange(self) -> None:
         """Takes another record: any bodies in any place."""
@@ -121,7 +121,7 @@ def test_walks(pytestconfig: pytest.Config, say: Say) -> None:
     say(f"{count} walks of a guard's record: {dict(sorted(counted.items()))}")
     refusals = {int(it.split()[1]) for it in counted} - {0, 1, 2}
     assert refusals == {it.value for it in Refusal} - {Refusal.NO_ROOM}, "each refusal was met"
-    assert {f"answer {it.value}" for it in Said} <= {*counted}
+    assert {f"answer {it.value}" for it in Reply} <= {*counted}
 
 
 def test_room() -> None:
@@ -154,7 +154,7 @@ def test_numbers() -> None:
     assert found == {it.name: it.value for it in Refusal}
     assert numbers() == sorted(it for it in found.values() if it < 128)
     answers = {name: int(it) for name, it in re.findall(r"CONIKS_GUARD_([A-DF-Z]\w+) = (\d+)", header)}
-    assert answers == {it.name: it.value for it in Said}
+    assert answers == {it.name: it.value for it in Reply}
 
 
 def test_stack(tmp_path: Path, say: Say) -> None:

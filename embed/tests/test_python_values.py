@@ -33,22 +33,22 @@ def test_watch(keydir: str) -> None:
     tour = run(keydir, "run", stdin=open(TOP / "examples/tour.jsonl", "rb")).stdout
     found = os.environ | {"PYTHONPATH": str(EMBED / "python/src")}
     ran = run(sys.executable, EMBED / "python/watch.py", "--expect", "YWxpY2UtMQ==", "alice", input=tour, env=found)
-    said = ran.stdout.decode().splitlines()
+    printed = ran.stdout.decode().splitlines()
     lines = [json.loads(it) for it in tour.splitlines()]
     looked = [it for it in lines if it.get("ok") == "lookup"]
     checked = run(keydir, "check", input="".join(f"{json.dumps(it)}\n" for it in looked).encode()).stdout.splitlines()
     wanted = []
     for line, answer in zip(looked, map(json.loads, checked), strict=True):
         wanted.append(f"epoch {line['epoch']}, {line['name']}: {answer.get('key', 'absent')}")
-    assert [it for it in said if ", " in it and "watched" not in it] == wanted, ("watch.py checks as the program does", said)
+    assert [it for it in printed if ", " in it and "watched" not in it] == wanted, ("watch.py checks as the program does", printed)
     watched = run(keydir, "monitor", "--key", "0" * 64, "--name", "alice", "--expect", "YWxpY2UtMQ==",
                   input="".join(f"{json.dumps(it)}\n" for it in looked if it["name"] == "alice").encode()).stdout.splitlines()  # fmt: skip
     wanted = [f"epoch {it['epoch']}, watched: {it['seen']}" for it in map(json.loads, watched)]
-    assert wanted and [it for it in said if "watched" in it] == wanted, ("watch.py sees what the program does", said)
+    assert wanted and [it for it in printed if "watched" in it] == wanted, ("watch.py sees what the program does", printed)
     audited = [f"epoch {json.loads(it)['epoch']}: follows" for it in run(
         keydir, "audit", "--key", "0" * 64, input="".join(f"{json.dumps(it)}\n" for it in lines if it.get("ok") == "batch").encode()
     ).stdout.splitlines()]  # fmt: skip
-    assert audited and [it for it in said if it.endswith("follows")] == audited, ("watch.py audits as the program does", said)
+    assert audited and [it for it in printed if it.endswith("follows")] == audited, ("watch.py audits as the program does", printed)
 
 
 def test_faults(lines: Sequence[samples.Line]) -> None:
@@ -192,9 +192,9 @@ def test_library(tmp_path: Path) -> None:
         ("later", ["has version 2.3.4, and this package has version " + coniks.__version__]),
     ]:
         ran = run(sys.executable, "-c", LOAD, env=os.environ | {"CONIKS_LIBRARY": str(tmp_path / file)}, cwd=EMBED / "python/src")
-        said = ran.stdout.decode().splitlines()
-        is_well = len(said) == 3 and all(part in it and str(tmp_path / file) in it for it in said for part in parts)
-        assert is_well and ran.returncode == 0, (f"the library {file or 'that is a folder'}", (said, ran.stderr.decode()[-500:]))
+        printed = ran.stdout.decode().splitlines()
+        is_well = len(printed) == 3 and all(part in it and str(tmp_path / file) in it for it in printed for part in parts)
+        assert is_well and ran.returncode == 0, (f"the library {file or 'that is a folder'}", (printed, ran.stderr.decode()[-500:]))
 
 
 def answer_by_python(members: dict[str, Any]) -> dict[str, Any]:
@@ -220,8 +220,8 @@ def test_lines() -> None:
             wanted = json.loads(answer)
             if wanted.get("fault") == "Json" or wanted.get("member", "proof") != "proof":
                 continue
-            said = answer_by_python(json.loads(line))
+            printed = answer_by_python(json.loads(line))
             tried += 1
-            if said != wanted:
-                wrong.append((case.name, wanted, said))
+            if printed != wanted:
+                wrong.append((case.name, wanted, printed))
     assert tried > 100 and not wrong, ("the cases of check, by Python", (tried, wrong[:3]))

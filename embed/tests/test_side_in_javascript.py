@@ -20,10 +20,10 @@ def test_build_without_rt(tmp_path: Path) -> None:
     (tmp_path / "scripts").mkdir()
     for it in ("built", "need-rt"):
         shutil.copy(TOP / "scripts" / it, tmp_path / "scripts")
-    kept = [it for it in os.environ["PATH"].split(os.pathsep) if not (Path(it) / "rt").exists()]
-    ran = run(sys.executable, tmp_path / "web/build", env=os.environ | {"PATH": os.pathsep.join(kept)})
-    said = ran.stderr.decode()
-    assert ran.returncode == 1 and said.startswith("build: rt isn't on the search path") and said.count("\n") == 1, said
+    stored = [it for it in os.environ["PATH"].split(os.pathsep) if not (Path(it) / "rt").exists()]
+    ran = run(sys.executable, tmp_path / "web/build", env=os.environ | {"PATH": os.pathsep.join(stored)})
+    printed = ran.stderr.decode()
+    assert ran.returncode == 1 and printed.startswith("build: rt isn't on the search path") and printed.count("\n") == 1, printed
     assert not list((tmp_path / "web/out").iterdir()) and not (tmp_path / "out").exists()
 
 

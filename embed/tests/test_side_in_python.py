@@ -32,8 +32,8 @@ def venv(here: Path) -> Path:
     ran = run(maker, "-m", "venv", "--system-site-packages", here / "venv")
     assert ran.returncode == 0, ran.stderr.decode()
     writing = {it: value for it, value in os.environ.items() if it not in ("PYTHONDONTWRITEBYTECODE", "PYTHONPATH")}
-    status, said = installed(python, here / "python", writing)
-    assert status == 0, said[-2000:]
+    status, printed = installed(python, here / "python", writing)
+    assert status == 0, printed[-2000:]
     assert sorted(here.glob("python/**/*")) == before
     return python
 
@@ -80,9 +80,9 @@ def test_bare_environment(here: Path) -> None:
     assert ran.returncode == 0, ran.stderr.decode()
     for name in ["wheel", "setuptools"]:
         run(python.parent / "pip", "uninstall", "-y", name)
-        status, said = installed(python, here / "python", bare())
-        assert status and re.search("the package (setuptools|wheel) is missing: install it", said), said[-2000:]
-        assert "Traceback" not in said
+        status, printed = installed(python, here / "python", bare())
+        assert status and re.search("the package (setuptools|wheel) is missing: install it", printed), printed[-2000:]
+        assert "Traceback" not in printed
 
 
 def test_installed_requests(venv: Path, here: Path, tmp_path: Path, requests: Sequence[Request]) -> None:

@@ -59,9 +59,9 @@ def check_dropped(here: Path, features: Sequence[str]) -> None:
     room.write_text("\n".join([*lines, "fn main() { let _ = f; }", ""]), "utf-8")
     words = ["cargo", "check", "--offline", *features, "--example", "dropped", "--message-format", "short"]
     ran = run(*words, cwd=here / "rust")
-    said = [it for it in ran.stderr.decode().splitlines() if "dropped.rs:" in it and "unused" in it]
+    printed = [it for it in ran.stderr.decode().splitlines() if "dropped.rs:" in it and "unused" in it]
     # One line may have several warnings.
-    warned = list(dict.fromkeys(lines[int(it.split(":")[1]) - 1] for it in said))
+    warned = list(dict.fromkeys(lines[int(it.split(":")[1]) - 1] for it in printed))
     assert warned == dropped, ("each dropped result is warned of", (set(dropped) - set(warned), ran.stderr.decode()[-2000:]))
     room.unlink()
 

@@ -119,7 +119,7 @@ def texts(browser: Browser, selector: str) -> list[str]:
 
 
 def standings(browser: Browser) -> list[str]:
-    """What is said of each lookup, without its epoch and those that follow."""
+    """What is stated about each lookup, without its epoch and those that follow."""
     return [re.split("; (?:later epochs|this is of epoch) ", it)[0] for it in texts(browser, ".standing")]
 
 

@@ -64,8 +64,8 @@ def shown(browser: Browser, what: str, lines: str, green: int = 0, kind: str = "
     assert found == green, (f"{what}: {green} are shown as authentic", (found, texts(browser, ".standing")))
     pictured = verdicts_are_green(browser)
     assert sum(pictured) == green, (f"{what}: {green} are green in the picture", pictured)
-    said = texts(browser, ".standing")
-    assert sum(it.startswith("authentic") for it in said) == green, (f"{what}: {green} are called authentic", said)
+    printed = texts(browser, ".standing")
+    assert sum(it.startswith("authentic") for it in printed) == green, (f"{what}: {green} are called authentic", printed)
     return texts(browser, ".verdict")
 
 
@@ -92,26 +92,26 @@ def saved_by(browser: Browser, link: str, file: Path) -> str:
 def test_stored(browser: Browser, tmp_path: Path) -> None:
     """The stored cases: an absence that is renamed, names that look alike or turn, spaces, and a fork."""
     for keys in [{"signing": SIGNING}, {"signing": SIGNING, "vrf": VRF}]:
-        said = shown(browser, f"a renamed absence, {len(keys)} keys", case("absence-of-alice"), **keys)
-        conditional = [it for it in said if it.startswith("At the index in this line, which nobody has verified")]
-        assert said and conditional == said, ("a renamed absence has its condition in front", said)
+        printed = shown(browser, f"a renamed absence, {len(keys)} keys", case("absence-of-alice"), **keys)
+        conditional = [it for it in printed if it.startswith("At the index in this line, which nobody has verified")]
+        assert printed and conditional == printed, ("a renamed absence has its condition in front", printed)
         seen = texts(browser, "#timeline li > span:last-child")
         assert seen and not any(it.startswith("not registered") for it in seen), ("and over the epochs too", seen)
     for name in ["rtl", "same-looking", "spaces"]:
-        said = shown(browser, name, case(name), signing=CASE_SIGNING)
+        printed = shown(browser, name, case(name), signing=CASE_SIGNING)
         names = {it["name"] for it in lines_of(case(name)) if it["ok"] == "lookup"}
-        assert len({it.split(", ", 2)[1] for it in said}) == len(names), (f"{name}: different names look different", said)
-        assert in_order(browser), (f"{name}: each sentence is in order", said)
+        assert len({it.split(", ", 2)[1] for it in printed}) == len(names), (f"{name}: different names look different", printed)
+        assert in_order(browser), (f"{name}: each sentence is in order", printed)
     widths = browser.value("[...document.querySelectorAll('.name, .key')].map(it => getComputedStyle(it).whiteSpaceCollapse)")
     assert widths and set(widths) == {"preserve"}, ("spaces in names and keys don't collapse", widths)
     shown(browser, "a fork", case("fork"), signing=CASE_SIGNING)
     entries = [json.dumps({"entry": it["entry"]}, separators=(",", ":")) for it in lines_of(case("fork")) if it["ok"] == "install"]
-    said = contradictions(browser)
-    is_well = bool(said) and said[0].startswith("The provider equivocated") and all(it in said[0] for it in entries)
-    assert is_well, ("a fork is said first, with its entries", said)
+    printed = contradictions(browser)
+    is_well = bool(printed) and printed[0].startswith("The provider equivocated") and all(it in printed[0] for it in entries)
+    assert is_well, ("a fork is said first, with its entries", printed)
     saved = saved_by(browser, ".contradiction a", tmp_path / "evidence.jsonl")
     assert saved.splitlines() == entries, ("its evidence can be saved", saved)
-    said = shown(browser, "the demonstration", DEMONSTRATION, kind="demonstration", key=KEY)
+    printed = shown(browser, "the demonstration", DEMONSTRATION, kind="demonstration", key=KEY)
     assert not contradictions(browser), "the demonstration's key convicts nobody"
 
 
@@ -141,17 +141,17 @@ def test_looks(browser: Browser) -> None:
             for name in [f"al{it}ice", f"{it}alice", f"alice{it}"]:
                 set_keys(browser, "provider", **OWN)
                 paste(browser, named(name))
-                said = texts(browser, ".verdict")[0]
-                is_well = f"\\u{{{point}}}" in said and said != plain[0] and count(browser, ".verdict .odd") == 1
-                assert is_well, (f"{kind} U+{point} in {name!a} is written out", said)
+                printed = texts(browser, ".verdict")[0]
+                is_well = f"\\u{{{point}}}" in printed and printed != plain[0] and count(browser, ".verdict .odd") == 1
+                assert is_well, (f"{kind} U+{point} in {name!a} is written out", printed)
     for what, name in LOOKING.items():
-        said = shown(browser, what, named(name))[0]
+        printed = shown(browser, what, named(name))[0]
         beyond = next(it for it in name if it > "~")
-        assert f"(not ASCII: U+{ord(beyond):04X}" in said, (f"{what} is noted", said)
-    said = shown(browser, "two scripts", named("\u0430lice"))[0]
-    assert "mixed scripts: Cyrillic, Latin" in said, ("two scripts are noted", said)
-    said = shown(browser, "many marks", named("a" + "\u0301" * 40))[0]
-    assert said.count("\\u{301}") == 38, ("a third mark on a letter is written out", said)
+        assert f"(not ASCII: U+{ord(beyond):04X}" in printed, (f"{what} is noted", printed)
+    printed = shown(browser, "two scripts", named("\u0430lice"))[0]
+    assert "mixed scripts: Cyrillic, Latin" in printed, ("two scripts are noted", printed)
+    printed = shown(browser, "many marks", named("a" + "\u0301" * 40))[0]
+    assert printed.count("\\u{301}") == 38, ("a third mark on a letter is written out", printed)
     assert "not ASCII" not in plain[0], ("a note isn't given to ASCII", plain)
 
 
@@ -171,10 +171,10 @@ IMITATING = [
 
 def test_imitations(browser: Browser) -> None:
     for name in IMITATING:
-        said = shown(browser, f"the name {name[:30]!a}", named(name))[0]
+        printed = shown(browser, f"the name {name[:30]!a}", named(name))[0]
         start, end = "At the index in this line, which nobody has verified as that of ", ", no key is registered at epoch 2"
-        assert said.startswith(f'{start}"') and said.endswith(end), (f"the sentence of {name[:30]!a}", said)
-        assert in_order(browser), (f"the order of {name[:30]!a}", said)
+        assert printed.startswith(f'{start}"') and printed.endswith(end), (f"the sentence of {name[:30]!a}", printed)
+        assert in_order(browser), (f"the order of {name[:30]!a}", printed)
         boxes = count(browser, ".verdict .name"), count(browser, ".verdict .name b")
         assert boxes == (1, 0), (f"the box of {name[:30]!a}", boxes)
     both = [shown(browser, f"{it!a}", named(it))[0] for it in ["\\u{202e}", "\u202e"]]
@@ -233,11 +233,11 @@ def attacks() -> Sequence[tuple[str, list[Line], int, Optional[str]]]:
 
 def test_attacks(browser: Browser) -> None:
     for what, lines, green, words in attacks():
-        said = shown(browser, what, text_of(lines), green)
-        assert words is None or (said and words in said[-1]), (f"{what}: what is said", said)
+        printed = shown(browser, what, text_of(lines), green)
+        assert words is None or (printed and words in printed[-1]), (f"{what}: what is said", printed)
     twice = json.dumps(LOOKUPS[0]).replace('"name": "alice"', '"name": "bob", "name": "alice"')
-    said = shown(browser, "two names in a line", f"{text_of(ENTRIES)}{twice}\n", 1)
-    assert said == ['"alice" is bound to this key at epoch 1'], ("the last of two names counts", said)
+    printed = shown(browser, "two names in a line", f"{text_of(ENTRIES)}{twice}\n", 1)
+    assert printed == ['"alice" is bound to this key at epoch 1'], ("the last of two names counts", printed)
     shown(browser, "a provider's lines under the demonstration's key", PROVIDED, kind="demonstration", key=KEY)
     shown(browser, "the demonstration's lines under a provider's keys", DEMONSTRATION)
     shown(browser, "a provider's lines without keys", PROVIDED, kind="none")
@@ -259,11 +259,11 @@ def test_contradictions(browser: Browser) -> None:
     kinds: list[tuple[str, dict[str, Any]]] = [("none", {}), ("provider", OWN)]
     for kind, keys in kinds:
         shown(browser, f"two answers, {kind}", text_of([*ENTRIES, later, absent]), kind=kind, **keys)
-        said = contradictions(browser)
-        is_well = len(said) == 1 and said[0].startswith(
+        printed = contradictions(browser)
+        is_well = len(printed) == 1 and printed[0].startswith(
             'Two lines contradict each other"alice" at epoch 2 is bound to the key "key of alice" in line 4, and not registered in line 5.'
         )
-        assert is_well, (f"two answers are said first, {kind}", said)
+        assert is_well, (f"two answers are said first, {kind}", printed)
     shown(browser, "one answer twice", text_of([*ENTRIES, later, later]))
     assert not contradictions(browser), "one answer twice is no contradiction"
     shown(browser, "a refused answer beside another", text_of([*ENTRIES, LOOKUPS[1], dave | {"name": "alice"}]), 1)
@@ -280,8 +280,8 @@ def test_contradictions(browser: Browser) -> None:
         ("a forged entry under the example's key", f"{text_of(ENTRIES)}{forged_entry()}\n", SIGNING, False),
     ]:
         shown(browser, what, lines, signing=signing)
-        said = [it for it in contradictions(browser) if it.startswith("The provider equivocated")]
-        assert bool(said) == wanted, (f"{what}: evidence", said)
+        printed = [it for it in contradictions(browser) if it.startswith("The provider equivocated")]
+        assert bool(printed) == wanted, (f"{what}: evidence", printed)
     for what, kind, keys in [
         ("without keys", "none", dict[str, Any]()),
         ("under the demonstration's key", "demonstration", {"key": KEY}),

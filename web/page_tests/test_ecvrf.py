@@ -141,15 +141,15 @@ def by_libsodium(kind: str, parts: Parts) -> str:
 def test_beside_libsodium(pytestconfig: pytest.Config, say: Callable[[str], None]) -> None:
     """Each reply in JavaScript is libsodium's, and all kinds of results occur."""
     count, counts = pytestconfig.getoption("points"), dict[str, int]()
-    asked = requests(count, random.Random(pytestconfig.getoption("seed")))
-    lines = "".join(f"{kind} {' '.join(it.hex() or '.' for it in parts)}\n" for kind, parts in asked)
+    requested = requests(count, random.Random(pytestconfig.getoption("seed")))
+    lines = "".join(f"{kind} {' '.join(it.hex() or '.' for it in parts)}\n" for kind, parts in requested)
     ran = subprocess.run(["node", WEB / "ecvrf_answers.mjs"], input=lines, capture_output=True, text=True)
-    said = ran.stdout.splitlines()
-    assert (ran.returncode, len(said)) == (0, len(asked)), ran.stderr[-2000:]
-    for (kind, parts), found in zip(asked, said):
+    printed = ran.stdout.splitlines()
+    assert (ran.returncode, len(printed)) == (0, len(requested)), ran.stderr[-2000:]
+    for (kind, parts), found in zip(requested, printed):
         wanted = by_libsodium(kind, parts)
         assert found == wanted, f"{kind} {' '.join(it.hex() for it in parts)}"
-        told = f"{kind}: {wanted if len(wanted) < 10 else 'an output'}"
-        counts[told] = counts.get(told, 0) + 1
+        reported = f"{kind}: {wanted if len(wanted) < 10 else 'an output'}"
+        counts[reported] = counts.get(reported, 0) + 1
     assert len(counts) == 6 and min(counts.values()) >= count // 20, counts
     say(str(dict(sorted(counts.items()))))

@@ -161,7 +161,7 @@ def test_follows(visitor: Visitor) -> None:
     assert texts(visitor.browser, "#since")[0].endswith(
         "3 entries, epochs 1 to 3. Each is signed, and has the link of the one before."
     )
-    assert visitor.site.asked.count("/v1/entries?after=0") == 1, "the chain is taken once"
+    assert visitor.site.requested.count("/v1/entries?after=0") == 1, "the chain is taken once"
     assert all(it.startswith(visitor.site.url) for it in visitor.browser.requests()) and not visitor.browser.complaints()
 
 
@@ -201,10 +201,10 @@ def test_hostile_names(visitor: Visitor) -> None:
         assert visitor.is_verified and count(visitor.browser, "#result img, #result a, #result script") == 0
     assert visitor.browser.value("document.title") == "Follow a key directory"
     assert "\\u{202e}" in visitor.look("alice\u202eecila") and "not ASCII: U+0430" in visitor.look("аlice")
-    asked = len(visitor.site.asked)
+    requested = len(visitor.site.requested)
     for name in ["", "a\u0085", "\ue000\u0378", "é" * 128]:
         assert "a name " in visitor.look(name) and not visitor.is_verified
-    assert len(visitor.site.asked) == asked, "nothing was asked for"
+    assert len(visitor.site.requested) == requested, "nothing was asked for"
 
 
 # Bytes that look like a record of dave's and are none: whom the page can't call their owner.
@@ -220,9 +220,9 @@ def test_unsigned_record(visitor: Visitor, value: bytes) -> None:
     """Bytes are a record of its owner only if the owner signed them for this name and directory."""
     visitor.site.confirmed(3, dave=value)
     visitor.begin()
-    said = visitor.look("dave")
-    assert "has the key 0x766f756368656431" in said and "of its owner" not in said and not visitor.is_verified
-    assert "at epoch 3. These bytes look like a record of an owner, and are not signed as one." in said
+    printed = visitor.look("dave")
+    assert "has the key 0x766f756368656431" in printed and "of its owner" not in printed and not visitor.is_verified
+    assert "at epoch 3. These bytes look like a record of an owner, and are not signed as one." in printed
 
 
 def test_plain_key(visitor: Visitor) -> None:
@@ -247,9 +247,9 @@ def test_unvouched_change(visitor: Visitor, value: bytes) -> None:
     assert visitor.look("alice").startswith("Verified and stored")
     visitor.site.confirmed(3, alice=value)
     for _ in range(2):
-        said = visitor.look("alice")
-        assert "The owner of the key before did not sign the change: don't use it." in said and not visitor.is_verified
-        assert 'in place of "key of alice" at epoch 3.' in said and "of its owner" not in said
+        printed = visitor.look("alice")
+        assert "The owner of the key before did not sign the change: don't use it." in printed and not visitor.is_verified
+        assert 'in place of "key of alice" at epoch 3.' in printed and "of its owner" not in printed
         assert count(visitor.browser, "#result .bad") == 1 and count(visitor.browser, "#alarms pre") == 0
         visitor.open()
     assert visitor.look("nobody") and visitor.is_verified
@@ -309,8 +309,8 @@ def test_lies(visitor: Visitor, path: str, lie: Callable[[World, Any], Reply], w
     visitor.begin()
     world = visitor.site.world
     visitor.site.lies[path] = lambda query: lie(world, query)
-    said = visitor.look("alice")
-    assert said.startswith("Not verified: ") and why in said and not visitor.is_verified
+    printed = visitor.look("alice")
+    assert printed.startswith("Not verified: ") and why in printed and not visitor.is_verified
     del visitor.site.lies[path]
     assert visitor.look("alice").startswith("Verified") and count(visitor.browser, "#alarms > div") == 0
 
@@ -354,7 +354,7 @@ def test_notes(visitor: Visitor, document: bytes, sayings: list[str], agreeing: 
     assert visitor.look("alice").startswith("The directory shows: ") and not visitor.is_verified
     assert "at epoch 2, which too few of your auditors confirm." in visitor.result
     assert visitor.opinions[0] == f"{agreeing} of your 2 auditors agree with this chain, and 2 must: rely on nothing new."
-    assert [b.startswith(f"{a} {said}") for a, b, said in zip(["one", "two"], visitor.opinions[1:], sayings)] == [True, True]
+    assert [b.startswith(f"{a} {printed}") for a, b, printed in zip(["one", "two"], visitor.opinions[1:], sayings)] == [True, True]
     differing = sum("another chain" in it for it in sayings)
     assert count(visitor.browser, "#opinions .sum.good") == 0 and count(visitor.browser, "#alarms > div") == differing
     visitor.site.note = note(visitor.site.world, 2)
@@ -420,7 +420,7 @@ def test_heads_that_do_not_count(visitor: Visitor) -> None:
     assert '"key of alice"' in visitor.look("alice") and "at epoch 2." in visitor.result and visitor.is_verified
 
 
-def test_held_auditors(visitor: Visitor) -> None:
+def test_retained_auditors(visitor: Visitor) -> None:
     """Auditors that are held at an early epoch confirm no later one, however often they cosign it."""
     visitor.begin()
     visitor.site.batches += [(it, {}) for it in range(3, 40)]

@@ -62,8 +62,8 @@ def test_served(anywhere: Browser, audited: tuple[Running, list[Auditing]]) -> N
     press(anywhere, "start", policy=policy, auditors="\n".join(str(it.key) for it in auditors))
 
     def agreed() -> bool:
-        said = press(anywhere, "look", name="ALICE")
-        return '"alice" has the key "key of alice"' in said and count(anywhere, "#opinions .sum.good") == 1
+        printed = press(anywhere, "look", name="ALICE")
+        return '"alice" has the key "key of alice"' in printed and count(anywhere, "#opinions .sum.good") == 1
 
     until(agreed, 120)
     assert count(anywhere, "#alarms > div") == 0

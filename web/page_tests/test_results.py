@@ -103,8 +103,8 @@ def check_demonstration(browser: Browser, where: str) -> None:
     set_keys(browser, "demonstration", key=OTHER_KEY)
     paste(browser, DEMONSTRATION)
     assert set(standings(browser)) == {"refused"}, (f"another key, {where}", standings(browser))
-    said = [it for it in texts(browser, "#results .entry") if "the signature isn't valid for this body" in it]
-    assert len(said) == 3, (f"entries under another key, {where}", texts(browser, "#results .entry"))
+    printed = [it for it in texts(browser, "#results .entry") if "the signature isn't valid for this body" in it]
+    assert len(printed) == 3, (f"entries under another key, {where}", texts(browser, "#results .entry"))
     set_keys(browser)
 
 
@@ -141,7 +141,7 @@ def test_provider(browser: Browser) -> None:
 def test_key_texts(browser: Browser) -> None:
     """A text that is no key is reported beside its field, and then nothing is authentic."""
     small = "not a key: the signing key is no point of prime order: take the one of the policy document"
-    for what, keys, field, said in [
+    for what, keys, field, printed in [
         ("a short signing key", {"signing": "00", "vrf": VRF}, "signing", f"{NOT_A_KEY}2 digits"),
         ("a long signing key", {"signing": f"{SIGNING}0", "vrf": VRF}, "signing", f"{NOT_A_KEY}65 digits"),
         ("a signing key of letters", {"signing": f"{SIGNING[:-1]}g", "vrf": VRF}, "signing", f"{NOT_A_KEY}other characters"),
@@ -152,9 +152,9 @@ def test_key_texts(browser: Browser) -> None:
     ]:
         set_keys(browser, "provider", **keys)
         paste(browser, PROVIDED)
-        assert note(browser, field) == [said, "true"], (f"{what} is told", note(browser, field))
+        assert note(browser, field) == [printed, "true"], (f"{what} is told", note(browser, field))
         assert count(browser, ".authentic") == 0 and "0 authentic" in texts(browser, "#summary")[0], f"{what}: nothing is authentic"
-    for key, said in [
+    for key, printed in [
         ("00", f"{NOT_A_KEY}2 digits"),
         (OTHER_KEY, "wrong key: no signature of 3 entries is one under it"),
         (KEY, ""),
@@ -162,7 +162,7 @@ def test_key_texts(browser: Browser) -> None:
         set_keys(browser, "demonstration", key=key)
         paste(browser, DEMONSTRATION)
         found = note(browser, "key")
-        assert found == [said, str(said != "").lower()], (f"the demonstration's key {key[:3]}..", found)
+        assert found == [printed, str(printed != "").lower()], (f"the demonstration's key {key[:3]}..", found)
     set_keys(browser)
 
 
@@ -218,8 +218,8 @@ def test_example_keys(browser: Browser) -> None:
         set_keys(browser, "provider", **keys)
         paste(browser, lines)
         assert browser.value("document.getElementById('of-example').checkVisibility()") is wanted, (what, "beside the keys")
-        said = ["the example's key" in it for it in [*texts(browser, "#summary"), *texts(browser, "#results .entry")[:1]]]
-        assert said == [wanted] * 2, (what, texts(browser, "#summary"), texts(browser, "#results .entry"))
+        printed = ["the example's key" in it for it in [*texts(browser, "#summary"), *texts(browser, "#results .entry")[:1]]]
+        assert printed == [wanted] * 2, (what, texts(browser, "#summary"), texts(browser, "#results .entry"))
     set_keys(browser)
 
 
@@ -262,8 +262,8 @@ def test_provider_lines(browser: Browser) -> None:
         {"epoch": 3, "link": "00" * 32, "names": 3, "nodes": 9, "ok": "latest"},
     ]
     paste(browser, PROVIDED + text_of(others))
-    said = texts(browser, "#summary")[0]
-    assert "4 authentic" in said and said.endswith("3 other lines."), ("other lines of a provider", said)
+    printed = texts(browser, "#summary")[0]
+    assert "4 authentic" in printed and printed.endswith("3 other lines."), ("other lines of a provider", printed)
     check_overtaken(browser)
     set_keys(browser)
 
@@ -295,8 +295,8 @@ def test_missing(browser: Browser) -> None:
         found = browser.value("[...document.querySelectorAll('#timeline li')].map(it => it.className)")
         assert found == wanted, (f"missing: {what}", found)
     paste(browser, text_of([*ENTRIES, LOOKUPS[0]]))
-    said = texts(browser, "#timeline li")[1]
-    assert said == "epochs 2 to 3missing: no line shows the name", ("several missing epochs are one row", said)
+    printed = texts(browser, "#timeline li")[1]
+    assert printed == "epochs 2 to 3missing: no line shows the name", ("several missing epochs are one row", printed)
     set_keys(browser)
 
 
@@ -305,12 +305,12 @@ def test_spoofs(browser: Browser) -> None:
     for kind, keys in [("none", dict[str, str]()), ("demonstration", {"key": KEY})]:
         set_keys(browser, kind, **keys)
         paste(browser, case("spoof-epoch"))
-        said = standings(browser)[-1]
-        assert said.endswith("; the line calls it epoch 2, which its entry does not"), (f"another epoch, {kind}", said)
+        printed = standings(browser)[-1]
+        assert printed.endswith("; the line calls it epoch 2, which its entry does not"), (f"another epoch, {kind}", printed)
         paste(browser, case("spoof-index"))
-        said = texts(browser, ".verdict")[-1]
+        printed = texts(browser, ".verdict")[-1]
         wanted = AT_AN_INDEX if kind == "none" else "the proof's other index is the requested index"
-        assert wanted in said, (f"another index, {kind}", said)
+        assert wanted in printed, (f"another index, {kind}", printed)
         assert count(browser, ".authentic") == 0, f"another index isn't good, {kind}"
     set_keys(browser)
     line = next(it for it in lines_of(DEMONSTRATION) if it["ok"] == "batch") | {"epoch": 0}
@@ -361,9 +361,9 @@ def test_menu(browser: Browser) -> None:
     )
     assert count(browser, "#timeline .changed, #timeline .absent, #timeline .missing") == 0, "an absence isn't shown as bad"
     lookup = json.loads(lines[4])
-    for many, said in [(500, ""), (501, "The menu has the first 500 of 501 names.")]:
+    for many, printed in [(500, ""), (501, "The menu has the first 500 of 501 names.")]:
         paste(browser, "\n".join(json.dumps(lookup | {"name": f"n{it}"}) for it in range(many)))
-        is_well = browser.value("document.getElementById('watched').length") == 500 and texts(browser, "#unlisted") == [said]
+        is_well = browser.value("document.getElementById('watched').length") == 500 and texts(browser, "#unlisted") == [printed]
         assert is_well, (f"{many} names in the menu", texts(browser, "#unlisted"))
 
 
@@ -405,8 +405,8 @@ def test_shown_faults(browser: Browser, lines: Sequence[samples.Line]) -> None:
     paste(browser, json.dumps(deep))
     assert count(browser, ".level") == 256, "256 levels are drawn"
     paste(browser, json.dumps(line | {"entry": "00" * 209}))
-    said = texts(browser, ".verdict")[0]
-    assert said.endswith(": the root or the nonce isn't that of its entry"), ("an entry of another root is told", said)
+    printed = texts(browser, ".verdict")[0]
+    assert printed.endswith(": the root or the nonce isn't that of its entry"), ("an entry of another root is told", printed)
     paste(browser, json.dumps(line))
     found = texts(browser, ".verdict") + standings(browser)
     wanted = [
@@ -415,7 +415,10 @@ def test_shown_faults(browser: Browser, lines: Sequence[samples.Line]) -> None:
     ]
     assert found == wanted, ("an entry that isn't pasted is told", found)
     paste(browser, json.dumps({it: line[it] for it in line if it != "entry"}))
-    said = texts(browser, ".verdict")[0]
-    assert said.startswith("Under the root in this line, which has no entry, and at"), ("a line without an entry is told", said)
+    printed = texts(browser, ".verdict")[0]
+    assert printed.startswith("Under the root in this line, which has no entry, and at"), (
+        "a line without an entry is told",
+        printed,
+    )
     terms = texts(browser, ".path dt")
     assert {"Index", "VRF proof", "Nonce", "Root", "Sibling"} <= set(terms), ("the terms of the drawing are explained", terms)

@@ -100,8 +100,8 @@ def test_lines(browser: Browser, keydir: str, tmp_path: Path) -> None:
     files = [tmp_path / "first.jsonl", tmp_path / "second.jsonl"]
     files[0].write_bytes(given)
     files[1].write_bytes(good + b"\n")
-    said = samples.run(keydir, "check", input=given + b"\n" + good).stdout.splitlines()
-    wanted = [[it, json.loads(answer).get("fault") == "Json"] for it, answer in enumerate(said, 1)]
+    printed = samples.run(keydir, "check", input=given + b"\n" + good).stdout.splitlines()
+    wanted = [[it, json.loads(answer).get("fault") == "Json"] for it, answer in enumerate(printed, 1)]
     for what in ["files", "the same files again"]:
         set_files(browser, files)
         found = browser.value(
@@ -139,8 +139,8 @@ def some_lines(lines: Sequence[samples.Line], count: int) -> list[str]:
 def test_verdicts(browser: Browser, keydir: str, lines: Sequence[samples.Line], pytestconfig: pytest.Config) -> None:
     """Each result and fault is the program's."""
     many = pytestconfig.getoption("lines")
-    asked = some_lines(lines, many)
-    said = samples.run(keydir, "check", input="".join(f"{it}\n" for it in asked).encode()).stdout.splitlines()
+    requested = some_lines(lines, many)
+    printed = samples.run(keydir, "check", input="".join(f"{it}\n" for it in requested).encode()).stdout.splitlines()
     found = browser.value(
         f"""(async lines => {{
             const coniks = await coniks_.Coniks.of(await packed_.unpacked(document.getElementById("module").textContent));
@@ -150,10 +150,10 @@ def test_verdicts(browser: Browser, keydir: str, lines: Sequence[samples.Line], 
                 const verdict = object === null ? {{ fault: "Json" }} : reading.lookupRow(it, object, null, null).verdict;
                 return "key" in verdict ? {{ answer: "key", key: bytes_.toBase64(verdict.key) }} : "answer" in verdict ? verdict : {{ fault: verdict.fault, ...(verdict.member ? {{ member: verdict.member }} : {{}}) }};
             }});
-        }})({json.dumps(asked)})"""
+        }})({json.dumps(requested)})"""
     )
-    wanted = [{key: value for key, value in json.loads(it).items() if key != "ok"} for it in said]
-    wrong = [(a, b, line[:200]) for a, b, line in zip(found, wanted, asked, strict=True) if a != b]
+    wanted = [{key: value for key, value in json.loads(it).items() if key != "ok"} for it in printed]
+    wrong = [(a, b, line[:200]) for a, b, line in zip(found, wanted, requested, strict=True) if a != b]
     assert not wrong, (f"{many:,} verdicts are the program's", wrong[:3])
     faults = {it.get("fault", "none") for it in wanted}
     all_faults = set("Json Member TooDeep NameLength KeyLength WrongName OtherIsSame OtherOffPath RootMismatch none".split())
@@ -311,8 +311,8 @@ def test_long(browser: Browser, lines: Sequence[samples.Line], say: Say) -> None
     long_key = line["proof"] | {"end": line["proof"]["end"] | {"key": "A" * 50_000_000}}
     for what, changed in [("a key of 50 MB", {"proof": long_key}), ("a name of 20 MB", {"name": "a" * 20_000_000})]:
         stopped_for(browser, json.dumps(line | changed), what, say)
-        said = texts(browser, "#results .plain")
-        assert said == ["refused: the line is longer than 262144 bytes"], (f"{what} is refused", said)
+        printed = texts(browser, "#results .plain")
+        assert printed == ["refused: the line is longer than 262144 bytes"], (f"{what} is refused", printed)
     set_keys(browser, "provider", signing=SIGNING, vrf=VRF)
     for what, text in [("1,700,000 lines", "{}\n" * 1_700_000), ("50 MB of lookups", fifty)]:
         browser.value(f"document.getElementById('reading').hidden = true; {WHEN_READING}")

@@ -105,7 +105,7 @@ export class Chain {
     const { status, entry, vrf } = this.core.replyNeeds(reply);
     this.check(status);
     const index = await this.#verifier.ofProof(name, vrf);
-    // An entry that is kept now is so in the next step: only a wait lets another call drop it.
+    // An entry that is stored now is so in the next step: only a wait lets another call drop it.
     const isSigned = this.core.replyNeeds(reply).needsSignature ? await this.#verifier.ofEntry(entry) : false;
     const now = this.#now();
     const judged = this.core.lookup({ name, reply, epoch }, { isSigned, index }, whole(now));

@@ -1,4 +1,4 @@
-// A client that can't forget a step: signatures, the chain, VRF proofs, paths and the asked epoch (docs/FORMATS.md, "A client's chain").
+// A client that can't forget a step: signatures, the chain, VRF proofs, paths and the requested epoch (docs/FORMATS.md, "A client's chain").
 // The library's proved core decides all of it (core.js), by the verdicts on signatures and VRF proofs (verdicts.js, chain.js).
 //
 // Calls may be under way at once. Each does what it waits for first, and then checks and keeps in one step without waiting. So it sees
@@ -150,12 +150,12 @@ export class Client {
     return Array.from(entries, (it) => bytes(it, "an entry"));
   }
 
-  /** The places of the entries that are kept, from 0 on. */
+  /** The places of the entries that are stored, from 0 on. */
   #places() {
     return Array.from({ length: this.#core.count }, (_, k) => k);
   }
 
-  /** The entries that are kept, in the order of the chain. */
+  /** The entries that are stored, in the order of the chain. */
   get entries() {
     return this.#places().map((k) => this.#core.entry(k));
   }
@@ -242,7 +242,7 @@ export class Client {
   // Lookups.
 
   /**
-   * What a reply shows of a name, at the epoch that was asked for, or at the latest one.
+   * What a reply shows of a name, at the epoch that was requested, or at the latest one.
    * @param {any} name @param {any} reply @param {any} epoch
    * @returns {Promise<Found>}
    */

@@ -20,14 +20,14 @@ function download(name, lines) {
 }
 
 /** @param {string} title @param {(string | HTMLElement)[]} words @param {string[]} lines @param {string} name */
-function said(title, words, lines, name) {
+function contradiction(title, words, lines, name) {
   return element("section", "bad contradiction", element("h2", "", title), element("p", "", sentence("", words)), element("p", "", download(name, lines)), element("pre", "", lines.join("\n")));
 }
 
 /** Two signed entries that one chain can't have. @param {Evidence} found @returns {HTMLElement} */
 export function equivocation(found) {
   const lines = [...new Set([found.a, found.b])].map((it) => JSON.stringify({ entry: toHex(it.entry) }));
-  return said("The provider equivocated", [`${capital(evidenceWords(found))}. The signatures are valid under this key, so the entries convict its owner: keep and publish them.`], lines, "evidence.jsonl");
+  return contradiction("The provider equivocated", [`${capital(evidenceWords(found))}. The signatures are valid under this key, so the entries convict its owner: keep and publish them.`], lines, "evidence.jsonl");
 }
 
 /** @param {LookupRow} row @returns {string} */
@@ -39,5 +39,5 @@ function answer(row) {
 export function twoAnswers(a, b) {
   const why = a.link === b.link ? "Both are of one entry at two indices: one of them isn't the name's" : "They are of two entries of this epoch: one chain has only one of them";
   const words = [nameBox(a.name ?? ""), `${epochWords(a)} is ${answer(a)} in line ${a.number}, and ${answer(b)} in line ${b.number}. ${why}.`];
-  return said("Two lines contradict each other", words, [a.text, b.text], "contradiction.jsonl");
+  return contradiction("Two lines contradict each other", words, [a.text, b.text], "contradiction.jsonl");
 }

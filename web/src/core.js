@@ -1,15 +1,16 @@
 // The binding of include/coniks_core.h, the core of a client. That header says what each struct and each call is, and the core decides
 // what a client accepts. Nothing is decided here.
 //
-// A client has the library with a memory of its own. At the front of it is what the client keeps, which the calls write. A struct is words
-// of 8 bytes, with the least significant byte first: a word has a number, a length or a place, or one or two short numbers of 4 bytes.
+// A client has the library with a memory of its own. At the front of it are the client's struct and what that points at, which the calls
+// write. A struct is words of 8 bytes, with the least significant byte first: a word has a number, a length or a place, or one or two short
+// numbers of 4 bytes.
 
 import { Rows } from "./desk.js";
 import { ENTRY, GOOD } from "./formats.js";
 
 /**
- * What a client has for its life: its policy digest, the members of `coniks_present` but the time, those of `coniks_promise`, and of its
- * trust document the digest, the number of auditors and how many of them may be faulty.
+ * What a client has for its life: its policy digest, the members of `coniks_clock`, those of `coniks_promise`, and of its trust
+ * document the digest, the number of auditors and how many of them may be faulty.
  * @typedef {{policy: Uint8Array, limits: bigint[], promise: bigint[], trust: {digest: Uint8Array, auditors: bigint, faulty: bigint}}} Settings
  *
  * @typedef {{status: number, kind: number, mine: bigint}} Why
@@ -20,7 +21,9 @@ import { ENTRY, GOOD } from "./formats.js";
  * @typedef {{epoch: bigint, link: Uint8Array}} Head
  */
 
-const [KEPT, CHANGE, ALARM, WATCH, VERDICTS, HEAD, SIBLINGS, STEP, LONG] = [218, 32, 16, 48, 40, 48, 8192, 32, 8];
+const [CORE, STORED_ENTRY, CHANGE, ALARM, VERDICTS, HEAD, SIBLINGS, STEP, LONG] = [264, 218, 32, 16, 40, 48, 8192, 32, 8];
+/** Where the members of `coniks_core` are. The clock, the promise and the quorum follow one another, and so do the marks and their number. */
+const AT = { policy: 0n, trust: 32n, clock: 64n, quorum: 120n, watch: 128n, stored: 176n, changes: 200n, alarms: 224n, marks: 248n };
 /** A place that is none: SIZE_MAX. */
 export const NOWHERE = 2n ** 64n - 1n;
 
@@ -53,25 +56,25 @@ function headBytes(heads) {
 export class Core {
   #calls;
   #desk;
-  #settings;
-  #policy;
-  #trust;
-  #watch;
-  /** @type {[bigint, bigint]} */
-  #marks;
-  #kept;
+  #core;
+  #chain;
   #changes;
   #alarms;
 
   /** @param {import("./coniks.js").Coniks} coniks  with a memory of its own @param {Settings} settings */
   constructor({ calls, desk }, settings) {
     const { digest, auditors, faulty } = settings.trust;
-    [this.#calls, this.#desk, this.#settings] = [calls, desk, settings];
-    [this.#policy, this.#trust, this.#watch] = [desk.store(settings.policy), desk.store(digest), desk.keep(WATCH)];
-    this.#marks = [desk.keep(LONG * Number(auditors)), auditors];
-    [this.#kept, this.#changes, this.#alarms] = [KEPT, CHANGE, ALARM].map((it) => new Rows(desk, it));
+    const [core, marks] = [desk.keep(CORE), desk.keep(LONG * Number(auditors))];
+    [this.#calls, this.#desk, this.#core] = [calls, desk, core];
     /** How many auditors are a quorum, 0n if there can be none. @type {bigint} */
     this.quorum = calls.coniks_core_quorum(auditors, faulty);
+    desk.write(core + AT.policy, settings.policy);
+    desk.write(core + AT.trust, digest);
+    desk.writeWords(core + AT.clock, [...settings.limits, ...settings.promise, this.quorum]);
+    desk.writeWords(core + AT.marks, [marks, auditors]);
+    this.#chain = new Rows(desk, STORED_ENTRY, core + AT.stored);
+    this.#changes = new Rows(desk, CHANGE, core + AT.changes);
+    this.#alarms = new Rows(desk, ALARM, core + AT.alarms);
   }
 
   // What calls take.
@@ -87,18 +90,24 @@ export class Core {
     return [this.#desk.put(bytes), BigInt(bytes.length)];
   }
 
-  /** What a call takes that shows or watches a name. */
-  #watched() {
-    return [...this.#kept.present, this.#watch, ...this.#changes.present];
+  /** An entry that was received. @param {Uint8Array} entry @param {boolean} isSigned @param {bigint} time @returns {bigint} */
+  #received(entry, isSigned, time) {
+    return this.#free().putWords([...this.#run(entry), BigInt(isSigned), time]);
   }
 
-  /** @param {bigint} time */
-  #present(time) {
-    return this.#desk.putWords([...this.#settings.limits, time]);
-  }
-
-  #promise() {
-    return this.#desk.putWords(this.#settings.promise);
+  /**
+   * Makes a call with other marks and another quorum, and takes all else that it writes.
+   * @param {bigint[]} marks @param {bigint} quorum @param {(core: bigint) => number} call
+   * @returns {number}
+   */
+  #under(marks, quorum, call) {
+    const desk = this.#desk;
+    const core = desk.put(desk.take(this.#core, CORE));
+    desk.writeWords(core + AT.quorum, [quorum]);
+    desk.writeWords(core + AT.marks, [desk.putWords(marks), BigInt(marks.length)]);
+    const status = call(core);
+    desk.write(this.#core + AT.watch, desk.take(core + AT.watch, Number(AT.marks - AT.watch)));
+    return status;
   }
 
   /** @param {number} status @param {bigint} why @returns {{status: number, why: Why}} */
@@ -111,27 +120,27 @@ export class Core {
   // What is kept.
 
   get count() {
-    return this.#kept.length;
+    return this.#chain.length;
   }
 
   /** @param {number} place */
   entry(place) {
-    return this.#kept.at(place).slice(0, ENTRY);
+    return this.#chain.at(place).slice(0, ENTRY);
   }
 
   /** @param {number} place @returns {bigint} */
   epoch(place) {
-    return longIn(this.#kept.at(place), 1);
+    return longIn(this.#chain.at(place), 1);
   }
 
   /** When an entry was accepted, in Unix seconds. @param {number} place @returns {bigint} */
   firstSeen(place) {
-    return longIn(this.#kept.at(place), ENTRY);
+    return longIn(this.#chain.at(place), ENTRY);
   }
 
   /** @param {number} place */
   seen(place) {
-    return this.#kept.at(place)[KEPT - 1];
+    return this.#chain.at(place)[STORED_ENTRY - 1];
   }
 
   /** Where the last change of the watched key begins, 0n if there is none. @returns {bigint} */
@@ -150,31 +159,30 @@ export class Core {
 
   /** @param {Uint8Array} entry @param {boolean} isSigned @param {bigint} time */
   feed(entry, isSigned, time) {
-    this.#kept.reserve(1);
-    const why = this.#free().putWords(zeros(2));
-    const given = [...this.#run(entry), Number(isSigned), time, why];
-    return this.#judged(this.#calls.coniks_core_feed(this.#policy, ...this.#kept.all, this.#watch, ...this.#marks, ...given), why);
+    this.#chain.reserve(1);
+    const [received, why] = [this.#received(entry, isSigned, time), this.#desk.putWords(zeros(2))];
+    return this.#judged(this.#calls.coniks_core_feed(this.#core, received, why), why);
   }
 
   /** @param {Head[]} heads @param {bigint} least @param {Uint8Array} entry @param {boolean} isSigned @param {bigint} time */
   start(heads, least, entry, isSigned, time) {
-    this.#kept.reserve(1);
-    const desk = this.#free();
+    this.#chain.reserve(1);
+    const [received, desk] = [this.#received(entry, isSigned, time), this.#desk];
     const [rows, why] = [desk.put(headBytes(heads)), desk.putWords(zeros(2))];
-    const given = [rows, BigInt(heads.length), least, ...this.#run(entry), Number(isSigned), time, why];
-    return this.#judged(this.#calls.coniks_core_start(this.#policy, ...this.#kept.all, this.#watch, ...given), why);
+    const status = this.#under([], least, (core) => this.#calls.coniks_core_start(core, rows, BigInt(heads.length), received, why));
+    return this.#judged(status, why);
   }
 
   /** @param {Head} head @returns {number} */
   compare({ epoch, link }) {
     const desk = this.#free();
-    return this.#calls.coniks_core_compare(...this.#kept.present, epoch, desk.put(link), desk.putWords(zeros(1)));
+    return this.#calls.coniks_core_compare(this.#core, epoch, desk.put(link), desk.putWords(zeros(1)));
   }
 
   /** @param {Uint8Array} entry @param {boolean} isSigned */
   evidence(entry, isSigned) {
-    const why = this.#free().putWords(zeros(2));
-    return this.#judged(this.#calls.coniks_core_evidence(...this.#kept.present, ...this.#run(entry), Number(isSigned), why), why);
+    const [received, why] = [this.#received(entry, isSigned, 0n), this.#desk.putWords(zeros(2))];
+    return this.#judged(this.#calls.coniks_core_evidence(this.#core, received, why), why);
   }
 
   /** The number of entries of a catch-up. @param {Uint8Array} catchUp @returns {{status: number, count: number}} */
@@ -189,31 +197,29 @@ export class Core {
 
   /** @param {bigint} auditor @param {Head} head @returns {number} */
   mark(auditor, { epoch, link }) {
-    return this.#calls.coniks_core_mark(...this.#kept.present, ...this.#marks, auditor, epoch, this.#free().put(link));
+    return this.#calls.coniks_core_mark(this.#core, auditor, epoch, this.#free().put(link));
   }
 
   /** @returns {{status: number, epoch: bigint}} */
   confirmed() {
     const desk = this.#free();
     const epoch = desk.putWords(zeros(1));
-    const status = this.#calls.coniks_core_confirmed(...this.#marks, this.quorum, epoch);
+    const status = this.#calls.coniks_core_confirmed(this.#core, epoch);
     return { status, epoch: desk.words(epoch, 1)[0] };
   }
 
   /** @param {bigint} place @returns {number} */
   relied(place) {
-    return this.#calls.coniks_core_relied(...this.#kept.present, place, ...this.#marks, this.quorum);
+    return this.#calls.coniks_core_relied(this.#core, place);
   }
 
   /** Drops what a quorum of the auditors confirms, or a head at `epoch`. @param {bigint} time @param {bigint | null} epoch */
   cover(time, epoch) {
-    this.#alarms.reserve(this.#kept.length);
-    const desk = this.#free();
-    const [present, promise, covered] = [this.#present(time), this.#promise(), desk.putWords(zeros(5))];
-    const marked = epoch === null ? [...this.#marks, this.quorum] : [desk.putWords([epoch]), 1n, 1n];
-    const watched = [this.#watch, ...this.#changes.all, ...this.#alarms.all];
-    const status = this.#calls.coniks_core_cover(present, promise, ...this.#kept.all, ...marked, ...watched, covered);
-    return { status, epochs: desk.number(covered) };
+    this.#alarms.reserve(this.#chain.length);
+    const covered = this.#free().putWords(zeros(5));
+    const call = (/** @type {bigint} */ core) => this.#calls.coniks_core_cover(core, time, covered);
+    const status = epoch === null ? call(this.#core) : this.#under([epoch], 1n, call);
+    return { status, epochs: this.#desk.number(covered) };
   }
 
   // Lookups.
@@ -222,7 +228,7 @@ export class Core {
   replyNeeds(reply) {
     const desk = this.#free();
     const needs = desk.putWords(zeros(4));
-    const status = this.#calls.coniks_core_reply_needs(...this.#kept.present, ...this.#run(reply), needs);
+    const status = this.#calls.coniks_core_reply_needs(this.#core, ...this.#run(reply), needs);
     const [[signature], [, entry, vrf, length]] = [halves(desk.words(needs, 1)[0]), desk.words(needs, 4).map(Number)];
     const parts = { entry: reply.subarray(entry, entry + ENTRY), vrf: reply.subarray(vrf, vrf + length) };
     return { status, needsSignature: signature === 1, ...parts };
@@ -231,10 +237,9 @@ export class Core {
   /** @param {{name: Uint8Array, reply: Uint8Array, epoch: bigint | null}} asked @param {Verdicts} verdicts @param {bigint} time */
   lookup({ name, reply, epoch }, verdicts, time) {
     const desk = this.#free();
-    const asking = desk.putWords([...this.#run(name), ...this.#run(reply), epoch === null ? 0n : 1n, epoch ?? 0n]);
-    const [found, why] = [desk.putWords(zeros(4)), desk.putWords(zeros(2))];
-    const given = [...this.#watched(), asking, desk.put(verdictBytes(verdicts)), found, why];
-    const judged = this.#judged(this.#calls.coniks_core_lookup(this.#policy, this.#present(time), ...given), why);
+    const asking = desk.putWords([...this.#run(name), ...this.#run(reply), epoch === null ? 0n : 1n, epoch ?? 0n, time]);
+    const [verified, found, why] = [desk.put(verdictBytes(verdicts)), desk.putWords(zeros(4)), desk.putWords(zeros(2))];
+    const judged = this.#judged(this.#calls.coniks_core_lookup(this.#core, asking, verified, found, why), why);
     const [place, both, start, length] = desk.words(found, 4);
     const [[shows, seen], key] = [halves(both), reply.slice(Number(start), Number(start + length))];
     return { ...judged, found: { place: Number(place), shows, seen, key } };
@@ -251,13 +256,12 @@ export class Core {
 
   /** @param {Uint8Array} name @param {Uint8Array} history @param {Uint8Array | null} index @returns {{status: number, found: Shown[]}} */
   history(name, history, index) {
-    const [desk, room] = [this.#free(), this.#kept.length + 1];
+    const [desk, room] = [this.#free(), this.#chain.length + 1];
     const asking = desk.putWords([...this.#run(name), ...this.#run(history)]);
-    const [steps, count] = [BigInt(desk.room(STEP * room)), desk.putWords(zeros(1))];
-    const verdicts = desk.put(verdictBytes({ isSigned: false, index }));
-    const given = [asking, verdicts, BigInt(desk.room(SIBLINGS)), steps, BigInt(room), count];
-    const status = this.#calls.coniks_core_history(...this.#watched(), ...given);
-    return { status, found: this.#steps(steps, desk.number(count)) };
+    const [siblings, items] = [BigInt(desk.room(SIBLINGS)), BigInt(desk.room(STEP * room))];
+    const [verdicts, steps] = [desk.put(verdictBytes({ isSigned: false, index })), desk.putWords([items, BigInt(room), 0n])];
+    const status = this.#calls.coniks_core_history(this.#core, asking, verdicts, siblings, steps);
+    return { status, found: this.#steps(items, Number(desk.words(steps, 3)[2])) };
   }
 
   /** What steps show. A key that a history sends once is one array. @param {bigint} steps @param {number} count @returns {Shown[]} */
@@ -275,10 +279,10 @@ export class Core {
 
   /** @param {Uint8Array} name @param {Uint8Array} key @param {bigint | null} since @returns {number} */
   watch(name, key, since) {
-    const [{ base }, [isWatched]] = [this.#desk, halves(this.#desk.words(this.#watch, 1)[0])];
+    const [{ base }, [isWatched]] = [this.#desk, halves(this.#desk.words(this.#core + AT.watch, 1)[0])];
     const [named, expected] = [this.#stored(name), this.#stored(key)];
     const wanted = this.#free().putWords([1n, ...named, since ?? 0n, ...expected]);
-    const status = this.#calls.coniks_core_watch(...this.#watched(), wanted, Number(since !== null));
+    const status = this.#calls.coniks_core_watch(this.#core, wanted, Number(since !== null));
     if (status !== GOOD || isWatched === 1) this.#desk.base = base;
     return status;
   }
@@ -287,7 +291,7 @@ export class Core {
   expect(key, by) {
     this.#changes.reserve(1);
     const { base } = this.#desk;
-    const status = this.#calls.coniks_core_expect(...this.#kept.present, this.#watch, ...this.#changes.all, ...this.#stored(key), by);
+    const status = this.#calls.coniks_core_expect(this.#core, ...this.#stored(key), by);
     if (status !== GOOD) this.#desk.base = base;
     return status;
   }
@@ -303,21 +307,19 @@ export class Core {
 
   /** Whether the epoch at a place is missing and lost. @param {number} place @param {bigint} time @returns {boolean} */
   isLost(place, time) {
-    this.#desk.clear();
-    return this.#calls.coniks_core_lost(this.#present(time), this.#promise(), ...this.#kept.present, BigInt(place)) === 1;
+    return this.#calls.coniks_core_lost(this.#core, time, BigInt(place)) === 1;
   }
 
   /** @param {bigint} epoch @returns {number} */
   note(epoch) {
-    return this.#calls.coniks_core_note(...this.#alarms.all, epoch);
+    return this.#calls.coniks_core_note(this.#core, epoch);
   }
 
   /** @param {bigint} time @returns {{status: number, what: number, first: bigint, last: bigint}} */
   report(time) {
     const desk = this.#free();
-    const [present, promise, report] = [this.#present(time), this.#promise(), desk.putWords(zeros(3))];
-    const known = [...this.#kept.present, this.#watch, promise, ...this.#alarms.present, ...this.#marks, this.quorum];
-    const status = this.#calls.coniks_core_report(present, ...known, report);
+    const report = desk.putWords(zeros(3));
+    const status = this.#calls.coniks_core_report(this.#core, time, report);
     const [what, first, last] = desk.words(report, 3);
     return { status, what: halves(what)[0], first, last };
   }
@@ -327,14 +329,12 @@ export class Core {
   /** @returns {{status: number, state: Uint8Array}} */
   state() {
     const desk = this.#free();
-    const [watch, trust] = [desk.words(this.#watch, WATCH / LONG), desk.words(this.#trust, 4)];
-    const saved = [...this.#kept.present, ...watch, ...this.#changes.present, ...this.#alarms.present, ...trust, ...this.#marks];
-    const [written, size] = [desk.putWords(saved), desk.putWords(zeros(1))];
-    const status = this.#calls.coniks_core_state_size(this.#policy, written, size);
+    const size = desk.putWords(zeros(1));
+    const status = this.#calls.coniks_core_state_size(this.#core, size);
     if (status !== GOOD) return { status, state: new Uint8Array(0) };
     const length = desk.number(size);
     const state = BigInt(desk.room(length));
-    return { status: this.#calls.coniks_core_state_write(this.#policy, written, state, BigInt(length), size), state: desk.take(state, length) };
+    return { status: this.#calls.coniks_core_state_write(this.#core, state, BigInt(length), size), state: desk.take(state, length) };
   }
 
   /**
@@ -346,18 +346,17 @@ export class Core {
     const run = this.#stored(state);
     const desk = this.#free();
     const needs = desk.putWords(zeros(5));
-    const status = this.#calls.coniks_core_state_needs(this.#policy, ...run, needs);
-    const [kept, changes, alarms, start, step] = desk.words(needs, 5).map(Number);
-    this.#kept.reserve(kept);
+    const status = this.#calls.coniks_core_state_needs(this.#core, ...run, needs);
+    const [chain, changes, alarms, start, step] = desk.words(needs, 5).map(Number);
+    this.#chain.reserve(chain);
     this.#changes.reserve(changes);
     this.#alarms.reserve(alarms);
-    return { status, run, entries: Array.from({ length: kept }, (_, k) => state.subarray(start + step * k, start + step * k + ENTRY)) };
+    return { status, run, entries: Array.from({ length: chain }, (_, k) => state.subarray(start + step * k, start + step * k + ENTRY)) };
   }
 
   /** Reads a state, whose marks are 0 if it is of other auditors. @param {[bigint, bigint]} run @param {boolean[]} verdicts @returns {number} */
   read(run, verdicts) {
     const signed = this.#free().put(new Uint8Array(Uint32Array.from(verdicts, Number).buffer));
-    const parts = [...this.#kept.all, this.#watch, ...this.#changes.all, ...this.#alarms.all, ...this.#marks];
-    return this.#calls.coniks_core_state_read(this.#policy, ...run, signed, BigInt(verdicts.length), this.#trust, ...parts);
+    return this.#calls.coniks_core_state_read(this.#core, ...run, signed, BigInt(verdicts.length));
   }
 }

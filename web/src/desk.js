@@ -39,23 +39,30 @@ export class Desk {
 
   /** The place of bytes that stay. @param {Uint8Array} bytes @returns {bigint} */
   store(bytes) {
-    const here = this.keep(bytes.length);
-    this.bytes(Number(here), bytes.length).set(bytes);
-    return here;
+    return this.write(this.keep(bytes.length), bytes);
   }
 
   /** @param {Uint8Array} bytes @returns {bigint} */
   put(bytes) {
-    const here = this.room(bytes.length);
-    this.bytes(here, bytes.length).set(bytes);
-    return BigInt(here);
+    return this.write(BigInt(this.room(bytes.length)), bytes);
   }
 
   /** Puts numbers of 64 bits, the least significant byte first. @param {bigint[]} numbers @returns {bigint} */
   putWords(numbers) {
-    const [here, view] = [this.room(WORD * numbers.length), new DataView(this.memory.buffer)];
-    numbers.forEach((it, k) => view.setBigUint64(here + WORD * k, it, true));
-    return BigInt(here);
+    return this.writeWords(BigInt(this.room(WORD * numbers.length)), numbers);
+  }
+
+  /** Writes to a place, and returns it. @param {bigint} here @param {Uint8Array} bytes @returns {bigint} */
+  write(here, bytes) {
+    this.bytes(Number(here), bytes.length).set(bytes);
+    return here;
+  }
+
+  /** @param {bigint} here @param {bigint[]} numbers @returns {bigint} */
+  writeWords(here, numbers) {
+    const view = new DataView(this.memory.buffer);
+    numbers.forEach((it, k) => view.setBigUint64(Number(here) + WORD * k, it, true));
+    return here;
   }
 
   /** The bytes at a place, until the memory grows. @param {number} here @param {number} size @returns {Uint8Array} */
@@ -80,44 +87,36 @@ export class Desk {
   }
 }
 
-/** Elements of one size, which calls append and drop. */
+/** An array of a client's struct: its elements have one size, and calls append and drop them. */
 export class Rows {
-  /** @param {Desk} desk @param {number} size */
-  constructor(desk, size) {
+  /** @param {Desk} desk @param {number} size @param {bigint} array  three words: where the elements are, for how many there is room, and how many there are */
+  constructor(desk, size, array) {
     this.desk = desk;
     this.size = size;
-    /** Where the number of elements is. */
-    this.count = desk.keep(WORD);
-    this.place = 0n;
-    this.room = 0;
+    this.array = array;
+  }
+
+  get place() {
+    return this.desk.words(this.array, 1)[0];
   }
 
   get length() {
-    return this.desk.number(this.count);
+    return Number(this.desk.words(this.array, 3)[2]);
   }
 
   /** Makes room for more elements. The desk is cleared then. @param {number} more */
   reserve(more) {
-    const needed = this.length + more;
-    if (needed <= this.room) return;
-    const room = Math.max(needed, 2 * this.room);
-    const place = this.desk.keep(room * this.size);
-    this.desk.bytes(Number(place), this.length * this.size).set(this.desk.bytes(Number(this.place), this.length * this.size));
-    [this.place, this.room] = [place, room];
+    const [place, before, length] = this.desk.words(this.array, 3).map(Number);
+    const needed = length + more;
+    if (needed <= before) return;
+    const room = Math.max(needed, 2 * before);
+    const grown = this.desk.keep(room * this.size);
+    this.desk.write(grown, this.desk.bytes(place, length * this.size));
+    this.desk.writeWords(this.array, [grown, BigInt(room)]);
   }
 
   /** The bytes of an element. @param {number} k @returns {Uint8Array} */
   at(k) {
     return this.desk.bytes(Number(this.place) + this.size * k, this.size);
-  }
-
-  /** What a call takes that changes no number of elements. */
-  get present() {
-    return [this.place, BigInt(this.length)];
-  }
-
-  /** What a call takes that appends or drops: it writes their number. */
-  get all() {
-    return [this.place, BigInt(this.room), this.count];
   }
 }

@@ -76,9 +76,9 @@ const INDICES = { verified: "verified by its VRF proof", computed: "computed wit
 /** @param {Shown} row @param {Lookup} lookup @param {Uint8Array} index @param {boolean} isMarked */
 function captionOf(row, lookup, index, isMarked) {
   const known = toHex(index) === toHex(lookup.index) ? "" : "; the line has another one, which is not used";
-  const asked = element("p", "asked", "Asked for ", nameBox(lookup.name), " at the index ", hashButton(toHex(index), "the index"), `, ${INDICES[row.indexIs]}${known}, under the nonce `, hashButton(toHex(lookup.nonce), "the nonce"));
+  const requested = element("p", "asked", "Asked for ", nameBox(lookup.name), " at the index ", hashButton(toHex(index), "the index"), `, ${INDICES[row.indexIs]}${known}, under the nonce `, hashButton(toHex(lookup.nonce), "the nonce"));
   const terms = TERMS.flatMap(([term, meaning]) => [element("dt", "", term), element("dd", "", meaning)]);
-  return element("figcaption", "", mark(isMarked, asked), element("dl", "", ...terms));
+  return element("figcaption", "", mark(isMarked, requested), element("dl", "", ...terms));
 }
 
 /** The drawing of the path in a line. @param {LookupRow} row @returns {HTMLElement} */

@@ -25,7 +25,7 @@ let follower;
  * @param {string} target @param {number} most
  * @returns {Promise<import("./following.js").Answer>}
  */
-async function asked(target, most) {
+async function requested(target, most) {
   try {
     const signal = /** @type {any} */ (AbortSignal).timeout(LONGEST);
     const found = await fetch(target, { redirect: "error", cache: "no-store", credentials: "omit", signal });
@@ -56,7 +56,7 @@ function refused(error) {
 // What is shown. Each call is made after what it shows was stored.
 
 /** A paragraph, or an item, of what is said. @param {string} tag @param {string} kind  beside its colour @param {import("./sayings.js").Saying} saying */
-function said(tag, kind, { colour, words }) {
+function paragraph(tag, kind, { colour, words }) {
   return element(tag, [colour, kind].filter(Boolean).join(" "), ...words.map(wordBox));
 }
 
@@ -69,8 +69,8 @@ function wordBox(word) {
 
 /** @param {{agreement: import("./confirming.js").Agreement, isAlarmed: boolean}} it */
 function showOpinions({ agreement, isAlarmed }) {
-  const items = agreement.opinions.map((it) => said("li", "", opinionSaying(it, isAlarmed)));
-  part("opinions").replaceChildren(said("li", "sum", sumSaying(agreement, isAlarmed)), ...items);
+  const items = agreement.opinions.map((it) => paragraph("li", "", opinionSaying(it, isAlarmed)));
+  part("opinions").replaceChildren(paragraph("li", "sum", sumSaying(agreement, isAlarmed)), ...items);
 }
 
 /** @param {Awaited<ReturnType<Follower["lookup"]>>} found */
@@ -78,7 +78,7 @@ function showFound(found) {
   const { key, path } = found;
   const drawing = drawingOf({ index: path.index, indexIs: "verified", verdict: { key } }, path);
   const details = element("details", "lookup authentic", element("summary", "", "The authentication path"), drawing);
-  part("result").replaceChildren(said("p", "found", foundSaying(found)), details);
+  part("result").replaceChildren(paragraph("p", "found", foundSaying(found)), details);
   showOpinions(found);
 }
 
@@ -87,7 +87,7 @@ function showView({ origin, begun, found, entries, count, faulty }) {
   part("origin").textContent = origin;
   part("alarms").replaceChildren(...found.map((it) => {
     const text = element("pre", "", [it.kind, ...it.parts].join("\n"));
-    return element("div", "contradiction", said("p", "", alarmSaying(it)), text);
+    return element("div", "contradiction", paragraph("p", "", alarmSaying(it)), text);
   }));
   part("lying").value = String(faulty);
   part("count").textContent = counting(count, "auditor");
@@ -100,7 +100,7 @@ function showView({ origin, begun, found, entries, count, faulty }) {
 }
 
 /** Shows what is kept, or asks for what is needed to begin. */
-async function showKept() {
+async function showSaved() {
   const view = await follower.view();
   for (const id of ["asking", "chain", "stored"]) part(id).hidden = view === null;
   part("begin").hidden = view !== null;
@@ -126,7 +126,7 @@ async function tried(call) {
     part("result").replaceChildren(refused(error));
   }
   try {
-    await showKept();
+    await showSaved();
   } catch (error) {
     // What is stored was changed: it can only be forgotten.
     part("stored").hidden = false;
@@ -159,7 +159,7 @@ async function forget() {
 }
 
 export async function begin() {
-  follower = new Follower(await Coniks.of(await unpacked(part("module").textContent)), browserStore, asked);
+  follower = new Follower(await Coniks.of(await unpacked(part("module").textContent)), browserStore, requested);
   part("start").addEventListener("click", () => tried(start));
   part("look").addEventListener("click", () => tried(async () => showFound(await follower.lookup(part("name").value))));
   part("compare").addEventListener("click", () => tried(async () => showOpinions(await follower.follow())));
@@ -169,7 +169,7 @@ export async function begin() {
     if (it.key === "Enter" && !part("look").disabled) part("look").click();
   });
   try {
-    const { status } = await asked("/v1/head", 4096);
+    const { status } = await requested("/v1/head", 4096);
     if (status !== 200) throw new Unusable("this page is not from a service of a directory: open it there");
   } catch (error) {
     part("shown").hidden = false;

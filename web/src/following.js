@@ -26,10 +26,10 @@ import { isSigned, judged, readRecord } from "./vouching.js";
  * What is kept: the policy document, the auditors' verifier keys and how many of these may lie, which the user gave; the client's state
  * in hexadecimal digits; when the first visit was, in Unix seconds; what the user must see; and of each name the reply, in hexadecimal
  * digits, that showed the record which was accepted last.
- * @typedef {{policy: string, auditors: string[], faulty: number, state: string, begun: number, found: Alarm[], seen: [string, string][]}} Kept
+ * @typedef {{policy: string, auditors: string[], faulty: number, state: string, begun: number, found: Alarm[], seen: [string, string][]}} Saved
  *
  * What is made of what is kept.
- * @typedef {{kept: Kept, policy: import("./policy.js").Policy, trust: import("./trust.js").Trust, client: Client}} Made
+ * @typedef {{saved: Saved, policy: import("./policy.js").Policy, trust: import("./trust.js").Trust, client: Client}} Made
  *
  * The same beside the bytes that are stored. A call adds to it.
  * @typedef {Made & {sealed: Uint8Array}} Open
@@ -54,22 +54,22 @@ const utf8 = new TextEncoder();
 /** The service, the browser or what is kept can't be used now. */
 export class Unusable extends Error {}
 
-/** @param {Kept} kept @returns {Uint8Array} */
-function sealedOf(kept) {
-  const text = utf8.encode(JSON.stringify(kept));
+/** @param {Saved} saved @returns {Uint8Array} */
+function sealedOf(saved) {
+  const text = utf8.encode(JSON.stringify(saved));
   return joined(sha256(text), text);
 }
 
-/** @param {Uint8Array} sealed @returns {Kept} */
-function keptIn(sealed) {
+/** @param {Uint8Array} sealed @returns {Saved} */
+function savedIn(sealed) {
   const text = sealed.slice(32);
   if (!isSame(sha256(text), sealed.slice(0, 32))) throw new RangeError("its digest is another one");
   return JSON.parse(new TextDecoder().decode(text));
 }
 
-/** @param {Kept} kept @returns {Uint8Array} */
-function stateIn(kept) {
-  const state = fromHex(kept.state);
+/** @param {Saved} saved @returns {Uint8Array} */
+function stateIn(saved) {
+  const state = fromHex(saved.state);
   if (state === null) throw new RangeError("the client's state is not hexadecimal digits");
   return state;
 }
@@ -113,10 +113,10 @@ export class Follower {
    * @param {string} policy @param {string[]} auditors @param {number} faulty  how many of the auditors may lie
    */
   async begin(policy, auditors, faulty) {
-    const kept = { policy, auditors, faulty, state: "", begun: Math.floor(this.#clock()), found: [], seen: [] };
-    const { client } = await this.#made(kept, null);
-    kept.state = toHex(client.state);
-    if (!(await this.#store.replace(null, sealedOf(kept)))) throw new Unusable("this browser follows a directory already: reload the page");
+    const saved = { policy, auditors, faulty, state: "", begun: Math.floor(this.#clock()), found: [], seen: [] };
+    const { client } = await this.#made(saved, null);
+    saved.state = toHex(client.state);
+    if (!(await this.#store.replace(null, sealedOf(saved)))) throw new Unusable("this browser follows a directory already: reload the page");
   }
 
   /** Forgets the directory, and all that was seen of it. */
@@ -128,7 +128,7 @@ export class Follower {
   trust(faulty) {
     return this.#stored(async (it) => {
       const { state } = it.client;
-      Object.assign(it, await this.#made({ ...it.kept, state: toHex(state), faulty }, state));
+      Object.assign(it, await this.#made({ ...it.saved, state: toHex(state), faulty }, state));
     });
   }
 
@@ -139,7 +139,7 @@ export class Follower {
   async view() {
     const it = await this.#opened();
     if (it === null) return null;
-    const { begun, found, auditors, faulty } = it.kept;
+    const { begun, found, auditors, faulty } = it.saved;
     return { origin: it.policy.origin, begun, found, entries: it.client.entries, count: auditors.length, faulty };
   }
 
@@ -147,7 +147,7 @@ export class Follower {
   follow() {
     return this.#stored(async (it) => {
       const agreement = await this.#agreed(it);
-      return { agreement, isAlarmed: it.kept.found.length > 0 };
+      return { agreement, isAlarmed: it.saved.found.length > 0 };
     });
   }
 
@@ -160,7 +160,7 @@ export class Follower {
     const name = canonical(text);
     return this.#stored(async (it) => {
       const agreement = await this.#agreed(it);
-      const before = new Map(it.kept.seen).get(name);
+      const before = new Map(it.saved.seen).get(name);
       const seen = before === undefined ? null : shownBy(before);
       // An epoch that was confirmed once stays so, also while the auditors are late.
       const epoch = agreement.epoch !== null && seen !== null && seen.epoch > agreement.epoch ? seen.epoch : agreement.epoch;
@@ -185,23 +185,23 @@ export class Follower {
    */
   async #judged(it, name, found, reply, agreement) {
     const { key } = found;
-    const [place, seen, record] = [{ policy: it.policy.digest, name }, new Map(it.kept.seen), readRecord(key)];
+    const [place, seen, record] = [{ policy: it.policy.digest, name }, new Map(it.saved.seen), readRecord(key)];
     const before = seen.get(name);
     const change = before === undefined ? null : await judged(place, shownBy(before).key, key);
     if (before !== undefined && change === "unvouched" && it.policy.recordsVouched) this.#alarm(it, { kind: "unvouched", who: name, parts: [before, toHex(reply)] });
     const isRecord = record !== null && (await isSigned(record, place));
-    const isAlarmed = it.kept.found.length > 0;
+    const isAlarmed = it.saved.found.length > 0;
     const isConfirmed = agreement.verdict === "confirmed" && it.client.isRelied(found);
     const findings = { isRecord, change, isConfirmed, isAlarmed };
     const verdict = verdictOf(key, findings);
-    if (verdict === "verified" && isRecord) it.kept = { ...it.kept, seen: [...seen.set(name, toHex(reply))] };
+    if (verdict === "verified" && isRecord) it.saved = { ...it.saved, seen: [...seen.set(name, toHex(reply))] };
     return { ...findings, verdict };
   }
 
   /** Keeps what the user must see: the first of each kind, and for each name and auditor. @param {Open} it @param {Alarm} alarm */
   #alarm(it, alarm) {
-    const isKnown = it.kept.found.some(({ kind, who }) => kind === alarm.kind && who === alarm.who);
-    if (!isKnown) it.kept = { ...it.kept, found: [...it.kept.found, alarm] };
+    const isKnown = it.saved.found.some(({ kind, who }) => kind === alarm.kind && who === alarm.who);
+    if (!isKnown) it.saved = { ...it.saved, found: [...it.saved.found, alarm] };
   }
 
   /** Takes all entries that the service has, and asks up to which epoch the auditors confirm them. @param {Open} it @returns {Promise<Agreement>} */
@@ -255,8 +255,8 @@ export class Follower {
   /** @param {Uint8Array} sealed @returns {Promise<Open>} */
   async #resumed(sealed) {
     try {
-      const kept = keptIn(sealed);
-      return { ...(await this.#made(kept, stateIn(kept))), sealed };
+      const saved = savedIn(sealed);
+      return { ...(await this.#made(saved, stateIn(saved))), sealed };
     } catch (error) {
       if (error instanceof Unsupported) throw error;
       if (error instanceof Refusal && error.why === "StateVersion") {
@@ -266,12 +266,12 @@ export class Follower {
     }
   }
 
-  /** What is made of what is kept: the client begins without a state. @param {Kept} kept @param {Uint8Array | null} state @returns {Promise<Made>} */
-  async #made(kept, state) {
-    const policy = readPolicy(utf8.encode(kept.policy));
-    const trust = await trustOf(this.#coniks, policy.digest, kept.auditors, kept.faulty);
+  /** What is made of what is kept: the client begins without a state. @param {Saved} saved @param {Uint8Array | null} state @returns {Promise<Made>} */
+  async #made(saved, state) {
+    const policy = readPolicy(utf8.encode(saved.policy));
+    const trust = await trustOf(this.#coniks, policy.digest, saved.auditors, saved.faulty);
     const options = { state, clock: this.#clock, trust: trust.ofClient };
-    return { kept, policy, trust, client: await Client.of(this.#coniks, policy.signingKey, policy.vrfKey, policy, options) };
+    return { saved, policy, trust, client: await Client.of(this.#coniks, policy.signingKey, policy.vrfKey, policy, options) };
   }
 
   /**
@@ -282,12 +282,12 @@ export class Follower {
   async #keep(it, error) {
     const { evidence = null } = error instanceof Refusal ? error : {};
     if (evidence !== null) this.#alarm(it, { kind: evidence.kind, who: "", parts: [toHex(evidence.mine), toHex(evidence.other)] });
-    const kept = { ...it.kept, state: toHex(it.client.state) };
-    const sealed = sealedOf(kept);
+    const saved = { ...it.saved, state: toHex(it.client.state) };
+    const sealed = sealedOf(saved);
     // Until it is stored, no other call goes on with this client.
     this.#open = null;
     const isStored = await this.#store.replace(it.sealed, sealed);
-    if (isStored) this.#open = { ...it, sealed, kept };
+    if (isStored) this.#open = { ...it, sealed, saved };
     return isStored;
   }
 

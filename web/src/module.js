@@ -34,19 +34,19 @@ class Auditor {
   constructor(library, state = new Uint8Array(STATE_BYTES)) {
     this.library = library;
     // The last bytes of a state are unused, and so are zeros.
-    this.kept = bytes(state, "the state", STATE_BYTES).fill(0, STATE_BYTES - UNUSED);
+    this.saved = bytes(state, "the state", STATE_BYTES).fill(0, STATE_BYTES - UNUSED);
   }
 
   get state() {
-    return this.kept.slice();
+    return this.saved.slice();
   }
 
   get head() {
-    return this.library.head(this.kept);
+    return this.library.head(this.saved);
   }
 
   feed(entry, signatureIsGood) {
-    this.library.accepted(this.library.calls.feed(this.kept, bytes(entry, "the entry"), bool(signatureIsGood)));
+    this.library.accepted(this.library.calls.feed(this.saved, bytes(entry, "the entry"), bool(signatureIsGood)));
   }
 }
 
@@ -67,7 +67,7 @@ class Monitor extends Auditor {
   }
 
   step(entry, signatureIsGood, proof) {
-    const status = this.library.calls.step(this.kept, this.wanted, bytes(entry, "the entry"), bool(signatureIsGood), bytes(proof, "the proof"));
+    const status = this.library.calls.step(this.saved, this.wanted, bytes(entry, "the entry"), bool(signatureIsGood), bytes(proof, "the proof"));
     return SEEN.get(status) ?? this.library.accepted(status);
   }
 }

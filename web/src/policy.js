@@ -21,13 +21,13 @@ export class Policy {
   #keys;
 
   /** @param {Uint8Array} document @param {string[]} parts */
-  constructor(document, [, origin, signingKey, vrfKey, start, period, records, kept]) {
+  constructor(document, [, origin, signingKey, vrfKey, start, period, records, saved]) {
     this.#document = document;
     this.#keys = { signing: signingKey, vrf: vrfKey };
     this.origin = origin;
     this.epochStart = numberIn(start);
     this.epochPeriod = numberIn(period);
-    this.proofsKept = numberIn(kept);
+    this.proofsKept = numberIn(saved);
     this.recordsVouched = records !== undefined;
     Object.freeze(this);
   }

@@ -26,9 +26,9 @@ import { FAULTS } from "./words.js";
  * @typedef {import("./keys.js").Keys} Keys
  * @typedef {import("./lines.js").Lookup} Lookup
  * @typedef {{fault: string, member?: string, status?: number} | {answer: "absent"} | {answer: "key", key: Uint8Array}} Verdict
- * @typedef {{what: "lookup", number: number, text: string, name: string | null, epoch: bigint | null, said: bigint | null, entry: Standing | "own", link: string, verdict: Verdict, index: Uint8Array | null, indexIs: IndexKind, isAccepted: boolean}} LookupRow
- * @typedef {{what: "entry", number: number, epoch: bigint | null, said: bigint | null, isAgain: boolean, refusal: {why: string, status: number | null} | null, isSigned: boolean | null}} EntryRow
- * @typedef {{what: "unproved", name: string | null, said: bigint | null}} UnprovedRow
+ * @typedef {{what: "lookup", number: number, text: string, name: string | null, epoch: bigint | null, stated: bigint | null, entry: Standing | "own", link: string, verdict: Verdict, index: Uint8Array | null, indexIs: IndexKind, isAccepted: boolean}} LookupRow
+ * @typedef {{what: "entry", number: number, epoch: bigint | null, stated: bigint | null, isAgain: boolean, refusal: {why: string, status: number | null} | null, isSigned: boolean | null}} EntryRow
+ * @typedef {{what: "unproved", name: string | null, stated: bigint | null}} UnprovedRow
  * @typedef {{what: "refusal", fault: string}} RefusalRow
  * @typedef {{what: "broken"} | {what: "other"} | {what: "unread", fault: "Json" | "Long"}} PlainRow
  * @typedef {LookupRow | EntryRow | UnprovedRow | RefusalRow | PlainRow} Row
@@ -89,7 +89,7 @@ export class Reading {
     const entry = entryOf(object);
     const isSigned = entry && (await this.isSigned(entry));
     if ("proof" in object) return this.lookupRow(line, object, entry, isSigned);
-    if (object.ok === "lookup" || "index" in object) return { what: "unproved", name: textOf(object.name), said: numberOf(line, object, "epoch") };
+    if (object.ok === "lookup" || "index" in object) return { what: "unproved", name: textOf(object.name), stated: numberOf(line, object, "epoch") };
     if ("entry" in object) return entry === null ? PLAIN.broken : this.fed(entry, isSigned, numberOf(line, object, "epoch"));
     return typeof object.fault === "string" ? { what: "refusal", fault: object.fault } : PLAIN.other;
   }
@@ -103,10 +103,10 @@ export class Reading {
     return isGood;
   }
 
-  /** @param {Uint8Array} entry @param {boolean | null} isSigned @param {bigint | null} said @returns {Promise<EntryRow>} */
-  async fed(entry, isSigned, said) {
+  /** @param {Uint8Array} entry @param {boolean | null} isSigned @param {bigint | null} stated @returns {Promise<EntryRow>} */
+  async fed(entry, isSigned, stated) {
     /** @type {EntryRow} */
-    const row = { what: "entry", number: this.rows.length + 1, epoch: this.epochOf(entry), said, isAgain: false, refusal: null, isSigned };
+    const row = { what: "entry", number: this.rows.length + 1, epoch: this.epochOf(entry), stated, isAgain: false, refusal: null, isSigned };
     try {
       if (this.client === null && isSigned !== false) this.client = await this.begun(entry);
       if (this.client === null) return { ...row, refusal: { why: "Signature", status: SIGNATURE } };
@@ -138,7 +138,7 @@ export class Reading {
       text: line,
       name: textOf(object.name),
       epoch: entry && this.epochOf(entry),
-      said: numberOf(line, object, "epoch"),
+      stated: numberOf(line, object, "epoch"),
       entry: tie,
       link: entry === null ? "" : this.coniks.link(entry),
       verdict: UNJUDGED,
@@ -306,9 +306,9 @@ function isSameAnswer(a, b) {
   return "key" in a && "key" in b ? isSame(a.key, b.key) : "key" in a === "key" in b;
 }
 
-/** Returns whether a line has another epoch than its entry. @param {{epoch: bigint | null, said: bigint | null}} row */
+/** Returns whether a line has another epoch than its entry. @param {{epoch: bigint | null, stated: bigint | null}} row */
 export function isOtherEpoch(row) {
-  return row.epoch !== null && row.said !== null && row.said !== row.epoch;
+  return row.epoch !== null && row.stated !== null && row.stated !== row.epoch;
 }
 
 /** @param {any} value @returns {string | null} */

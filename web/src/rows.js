@@ -15,15 +15,15 @@ import { capital, counting, keyText } from "./words.js";
  * @typedef {(string | HTMLElement)[]} Words
  */
 
-/** The epoch of a line's entry, or of a line without one. @param {{epoch?: bigint | null, said: bigint | null}} row @returns {string} */
+/** The epoch of a line's entry, or of a line without one. @param {{epoch?: bigint | null, stated: bigint | null}} row @returns {string} */
 export function epochWords(row) {
   if (typeof row.epoch === "bigint") return ` at epoch ${row.epoch}`;
-  return row.said === null ? "" : ` at an epoch that the line calls ${row.said}`;
+  return row.stated === null ? "" : ` at an epoch that the line calls ${row.stated}`;
 }
 
 /** @param {LookupRow | EntryRow} row @returns {string} the epoch of the line, if it is not the entry's */
 function otherEpoch(row) {
-  return isOtherEpoch(row) ? `; the line calls it epoch ${row.said}, which its entry does not` : "";
+  return isOtherEpoch(row) ? `; the line calls it epoch ${row.stated}, which its entry does not` : "";
 }
 
 /** Why a lookup or an entry is refused, if it is by more than a proof's status. @type {Record<string, string>} */
@@ -71,14 +71,14 @@ export class Teller {
     return REFUSED[verdict.fault] ?? this.coniks.text(verdict.status ?? 0);
   }
 
-  /** The name and the epoch of a refused lookup. @param {{name: string | null, epoch?: bigint | null, said: bigint | null}} row @returns {Words} */
-  asked(row) {
+  /** The name and the epoch of a refused lookup. @param {{name: string | null, epoch?: bigint | null, stated: bigint | null}} row @returns {Words} */
+  requested(row) {
     return [row.name === null ? "a lookup" : nameBox(row.name), epochWords(row)];
   }
 
   /** The result of a lookup, with its conditions in front. @param {LookupRow} row @returns {Words} */
   verdict(row) {
-    if (this.reading.stateOf(row) === "refused") return ["refused: ", ...this.asked(row), `: ${this.refusal(row)}`];
+    if (this.reading.stateOf(row) === "refused") return ["refused: ", ...this.requested(row), `: ${this.refusal(row)}`];
     const [name, at] = [nameBox(row.name ?? ""), epochWords(row)];
     const isBound = "answer" in row.verdict && row.verdict.answer === "key";
     const under = CONDITIONS[this.reading.standing(row)];
@@ -119,7 +119,7 @@ export class Teller {
   /** @param {Exclude<Row, LookupRow>} row @returns {Words} */
   plain(row) {
     if (row.what === "entry") return [this.entry(row)];
-    if (row.what === "unproved") return ["refused: ", ...this.asked(row), ": the answer has no proof"];
+    if (row.what === "unproved") return ["refused: ", ...this.requested(row), ": the answer has no proof"];
     if (row.what === "refusal") return ["the directory refused a request: ", nameBox(row.fault)];
     if (row.what === "broken") return ["refused: the entry isn't 418 hexadecimal digits"];
     if (row.what === "other") return ["neither a lookup nor an entry"];
@@ -178,7 +178,7 @@ const OF_ONE = { none: "its signature is", demonstration: "its seal is", provide
 const OF_SEVERAL = { none: "their signatures are", demonstration: "their seals are", provider: "their signatures are" };
 const SIGNED = { none: "not verified", demonstration: "valid, which anyone can forge", provider: "verified" };
 
-/** What is said of signatures. @param {Keys} keys @returns {string} */
+/** What is stated about signatures. @param {Keys} keys @returns {string} */
 function signedWords({ kind, isExample }) {
   return SIGNED[kind] + (isExample ? " (the example's key)" : "");
 }

@@ -32,8 +32,8 @@ async function fed(options) {
 const isSigned = await signaturesOf(policy.signingKey);
 const vrfKey = new VrfKey(policy.vrfKey, keyPoint(policy.vrfKey), crypto.subtle);
 const signing = { verify: (body, signature) => isSigned(body, signature) };
-const index = async (asked, proof) => (await vrfKey.output(asked, proof)).slice(0, 32);
-const vrf = { verify: async (asked, proof) => (await vrfKey.output(asked, proof)) !== null, index };
+const index = async (requested, proof) => (await vrfKey.output(requested, proof)).slice(0, 32);
+const vrf = { verify: async (requested, proof) => (await vrfKey.output(requested, proof)) !== null, index };
 const shown = ({ epoch, key, seen, age, firstSeen }) => ({ epoch, key, seen, age, first_seen: firstSeen });
 const ordered = ({ epoch, key, seen, age, first_seen }) => ({ epoch, key, seen, age, first_seen });
 
@@ -55,17 +55,17 @@ test("schemes of the caller", async () => {
   await throwing("another index", () => none.lookup(name, reply), "RootMismatch");
   // Only `true` itself counts.
   for (const result of [1, "true", {}, [], new Boolean(true), undefined, null, NaN, false, () => true]) {
-    for (const told of [result, Promise.resolve(result)]) {
-      const client = await begun({ signing: { verify: () => told } });
+    for (const reported of [result, Promise.resolve(result)]) {
+      const client = await begun({ signing: { verify: () => reported } });
       await throwing(`signatures that are ${String(result)}`, () => client.feed(entries), "Signature");
       same("no entry is kept", client.entries, []);
-      const other = await fed({ vrf: { verify: () => told, index } });
+      const other = await fed({ vrf: { verify: () => reported, index } });
       await throwing(`proofs that are ${String(result)}`, () => other.lookup(name, reply), "VrfProof");
     }
   }
   const wrong = [["none", undefined, "TypeError"], ["text", "0".repeat(32), "TypeError"], ["an array", Array(32).fill(0), "TypeError"]];
-  for (const [what, told, error] of [...wrong, ["31 bytes", new Uint8Array(31), "RangeError"], ["a buffer", new ArrayBuffer(32), "TypeError"]]) {
-    const client = await fed({ vrf: { verify: () => true, index: () => told } });
+  for (const [what, reported, error] of [...wrong, ["31 bytes", new Uint8Array(31), "RangeError"], ["a buffer", new ArrayBuffer(32), "TypeError"]]) {
+    const client = await fed({ vrf: { verify: () => true, index: () => reported } });
     client.watch(name, data(wanted.key));
     await throwing(`an index that is ${what}`, () => client.lookup(name, reply), error);
     same("the epoch stays missing", client.missing.length, 1);
@@ -93,8 +93,8 @@ test("schemes that fail", async () => {
 });
 
 test("what no scheme is asked for", async () => {
-  const asked = [];
-  const counting = { verify: (/** @type {any[]} */ ...it) => (asked.push(it), true), index: () => new Uint8Array(32) };
+  const requested = [];
+  const counting = { verify: (/** @type {any[]} */ ...it) => (requested.push(it), true), index: () => new Uint8Array(32) };
   const client = await begun({ signing: counting, vrf: counting });
   for (const [what, call, error] of [
     ["a reply that is cut", () => client.lookup(name, reply.slice(0, 290)), "CutInVrf"],
@@ -103,7 +103,7 @@ test("what no scheme is asked for", async () => {
     ["a state of another directory", () => begun({ signing: counting, state: new Uint8Array(200).fill(3, 0, 1) }), "StateDamaged"],
   ]) {
     await throwing(/** @type {string} */ (what), /** @type {any} */ (call), /** @type {string} */ (error));
-    same(`${what}: no scheme is asked`, asked.length, 0);
+    same(`${what}: no scheme is asked`, requested.length, 0);
   }
 });
 
@@ -259,9 +259,9 @@ test("what is returned is a copy", async () => {
   zero([policy.signingKey, policy.vrfKey, policy.digest, policy.document]);
   same("a policy returns copies", policy.document, textBytes(given.policy));
   const verify = (/** @type {Uint8Array[]} */ ...parts) => {
-    const told = isSigned(...parts.map((it) => it.slice()));
+    const reported = isSigned(...parts.map((it) => it.slice()));
     zero(parts);
-    return told;
+    return reported;
   };
   same("a scheme gets copies", (await fed({ signing: { verify } })).entries, entries);
   await throwing("a client in a literal", async () => ({ ...client }).feed(entries), "TypeError");

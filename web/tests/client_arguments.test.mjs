@@ -55,8 +55,8 @@ function renewed(...parts) {
 
 test("the examples of docs/FORMATS.md and docs/STORED.md", async () => {
   same("the digest of the policy", policy.digest, "9b7c1ee453e0628965915c3a88e82924b3e90fe53ba30531b2b3ff12be6f7fef");
-  const parts = { origin: policy.origin, start: policy.epochStart, period: policy.epochPeriod, kept: policy.proofsKept, records: policy.recordsVouched };
-  same("its parts", parts, { origin: "keys.example.com/directory", start: 1767225600, period: 3600, kept: null, records: false });
+  const parts = { origin: policy.origin, start: policy.epochStart, period: policy.epochPeriod, saved: policy.proofsKept, records: policy.recordsVouched };
+  same("its parts", parts, { origin: "keys.example.com/directory", start: 1767225600, period: 3600, saved: null, records: false });
   const client = await begun();
   client.watch("alice", key, 1);
   let now = start + 60;
@@ -223,11 +223,11 @@ test("seconds with fractions, and bigints", async () => {
 test("epochs that can no longer be verified", async () => {
   const lines = read("cases/client/lost.jsonl").split("\n");
   const given = JSON.parse(lines.find((it) => it.includes('"lost: as its proofs end"')));
-  const kept = readPolicy(textBytes(given.policy));
-  const keys = [kept.signingKey, kept.vrfKey];
+  const saved = readPolicy(textBytes(given.policy));
+  const keys = [saved.signingKey, saved.vrfKey];
   const end = start + 3600 + 86400;
   let now = start;
-  const client = await library.client(...keys, kept, { clock: () => now });
+  const client = await library.client(...keys, saved, { clock: () => now });
   client.watch("alice", key, 1);
   await client.feed(given.steps[1].entries.map(data));
   const before = client.state;
@@ -241,8 +241,8 @@ test("epochs that can no longer be verified", async () => {
   for (const time of ["1", null, undefined]) await throwing(`a clock that returns ${JSON.stringify(time)}`, () => at(time), "TypeError");
   same("a state has nothing of it", client.state, before);
   const resumed = (/** @type {any} */ by) => library.client(...keys, by, { state: before, clock: () => end });
-  same("after a state", (await resumed(kept)).lost, [1]);
-  same("never by a digest", (await resumed(kept.digest)).lost, []);
+  same("after a state", (await resumed(saved)).lost, [1]);
+  same("never by a digest", (await resumed(saved.digest)).lost, []);
 });
 
 /** A chain of `count` epochs under a policy, whose signatures a scheme accepts. @param {any} given @param {number} count */
@@ -323,7 +323,7 @@ test("the first of several errors of a state", async () => {
 /** The first of two errors of a step, in the order of docs/FORMATS.md. The history before it has two steps, and one sibling at last. */
 test("the first of two errors of a step", async () => {
   const client = await begun({ state });
-  const kept = hex(history.subarray(-32));
+  const saved = hex(history.subarray(-32));
   for (const [what, wanted, step] of [
     ["cut and epoch", "CutInStep", "00000000000000020300"],
     ["epoch and kind", "EpochOrder", "0000000000000002040000"],
@@ -332,8 +332,8 @@ test("the first of two errors of a step", async () => {
     ["the map's end and its bits", "CutInStep", "000000000000000303000901"],
     ["spare bits and the siblings' end", "SiblingMap", "0000000000000003030001ff"],
     ["a sibling that is in no step", "SiblingMap", "000000000000000303000200"],
-    ["the siblings' end and a repeated one", "CutInStep", `0000000000000003030002c0${kept}`],
-    ["a repeated sibling and the end", "SiblingRepeated", `000000000000000302000180${kept}`],
+    ["the siblings' end and a repeated one", "CutInStep", `0000000000000003030002c0${saved}`],
+    ["a repeated sibling and the end", "SiblingRepeated", `000000000000000302000180${saved}`],
     ["the end's end", "CutInStep", `000000000000000302000100${"dd".repeat(32)}0005616c69636500000001`],
     ["a repeated end", "EndRepeated", `000000000000000302000100${"dd".repeat(32)}0005616c696365000000016b`],
     ["no error of the bytes", "UnknownEpoch", "000000000000000303000100"],

@@ -34,19 +34,19 @@ function reading(keys) {
   return made;
 }
 
-const ROW = { what: "lookup", number: 1, text: "", name: "alice", epoch: 5n, said: 5n, link: "there", index: null };
+const ROW = { what: "lookup", number: 1, text: "", name: "alice", epoch: 5n, stated: 5n, link: "there", index: null };
 /** All that a lookup's row can be, but for the texts of errors. Only one whose index was verified is accepted. */
 function* lookups() {
   const verdicts = [{ answer: "key", key: textBytes("k") }, { answer: "absent" }, { fault: "VrfProof" }, { fault: "Member", member: "proof" }, { fault: "RootMismatch", status: 8 }];
   for (const verdict of verdicts) for (const entry of ["own", "other", "unsigned", "broken", "none"]) for (const link of entry === "own" ? ["there", "elsewhere"] : ["there"]) {
-    for (const indexIs of ["verified", "computed", "unverified"]) for (const isAccepted of indexIs === "verified" ? [false, true] : [false]) for (const said of [5n, 6n]) yield { ...ROW, verdict, entry, link, indexIs, isAccepted, said };
+    for (const indexIs of ["verified", "computed", "unverified"]) for (const isAccepted of indexIs === "verified" ? [false, true] : [false]) for (const stated of [5n, 6n]) yield { ...ROW, verdict, entry, link, indexIs, isAccepted, stated };
   }
 }
 
 /** The verdict of a lookup, by README.md of the pages: each condition that it lacks makes it less. @param {any} row */
-function wanted({ verdict, entry, link, indexIs, isAccepted, said }) {
+function wanted({ verdict, entry, link, indexIs, isAccepted, stated }) {
   if (!("answer" in verdict) || entry === "other" || entry === "unsigned") return "refused";
-  const isInChain = entry === "own" && link === "there" && said === 5n;
+  const isInChain = entry === "own" && link === "there" && stated === 5n;
   if (isInChain && indexIs === "computed") return "forgeable";
   return isInChain && isAccepted ? "authentic" : "consistent";
 }
@@ -75,7 +75,7 @@ test("each lookup", () => {
 });
 
 test("each other row", () => {
-  const entry = { what: "entry", number: 1, epoch: 5n, said: 6n, isAgain: false, isSigned: true, refusal: null };
+  const entry = { what: "entry", number: 1, epoch: 5n, stated: 6n, isAgain: false, isSigned: true, refusal: null };
   const other = "; the line calls it epoch 6, which its entry does not";
   const refusals = { Signature: "the signature of its entry isn't valid under this key", OtherPolicy: "its entry has another policy digest than the chain", Malformed: "no chain has an entry of this form", Equivocation: "its entry and one of the chain can't both be of one chain" };
   const rows = [
@@ -84,8 +84,8 @@ test("each other row", () => {
     ...Object.entries(refusals).map(([why, text]) => ["unfollowed", "plain refused", { ...entry, refusal: { why, status: null } }, `refused: the entry of epoch 5: ${text}${other}`]),
     ["unfollowed", "plain refused", { ...entry, refusal: { why: "NotLater", status: 36 } }, `refused: the entry of epoch 5: status 36${other}`],
     ["broken", "plain refused", { what: "broken" }, "refused: the entry isn't 418 hexadecimal digits"],
-    ["unproved", "plain refused", { what: "unproved", name: "alice", said: 5n }, 'refused: "alice" at an epoch that the line calls 5: the answer has no proof'],
-    ["unproved", "plain refused", { what: "unproved", name: null, said: null }, "refused: a lookup: the answer has no proof"],
+    ["unproved", "plain refused", { what: "unproved", name: "alice", stated: 5n }, 'refused: "alice" at an epoch that the line calls 5: the answer has no proof'],
+    ["unproved", "plain refused", { what: "unproved", name: null, stated: null }, "refused: a lookup: the answer has no proof"],
     ["refusal", "plain", { what: "refusal", fault: "Closed" }, 'the directory refused a request: "Closed"'],
     ["Json", "plain refused", { what: "unread", fault: "Json" }, "refused: the line isn't a JSON object"],
     ["Long", "plain refused", { what: "unread", fault: "Long" }, "refused: the line is longer than 262144 bytes"],
@@ -109,7 +109,7 @@ test("an entry that is signed again", async () => {
   const rows = /** @type {any[]} */ (made.rows);
   same("it takes the place of the latest one", rows.map((it) => [it.epoch, it.isAgain, it.refusal]), [[1, false, null], [1, true, null], [2, false, null]]);
   same("both are in the chain", [made.chain.size, made.latest], [3, 2]);
-  const seen = [1n, 2n].map((epoch, i) => ({ ...ROW, epoch, said: epoch, entry: "own", link: [...made.chain.keys()][i + 1], verdict: { answer: "absent" }, indexIs: "verified", isAccepted: true }));
+  const seen = [1n, 2n].map((epoch, i) => ({ ...ROW, epoch, stated: epoch, entry: "own", link: [...made.chain.keys()][i + 1], verdict: { answer: "absent" }, indexIs: "verified", isAccepted: true }));
   made.byName.set("alice", /** @type {any} */ (seen));
   same("no epoch of a name is missing", [...made.watched("alice")].map((it) => it.seen), ["unregistered", "unregistered"]);
 });

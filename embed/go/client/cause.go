@@ -95,7 +95,7 @@ func (m *memory) misuse(status C.uint32_t, name string) error {
 	case nameLength:
 		return fmt.Errorf("a name has 1 to %d bytes, not %d", maxName, len(name))
 	case changeOpen:
-		return fmt.Errorf("another change is expected by epoch %d: expect the next one after it", m.changes[len(m.changes)-1].firstNew)
+		return fmt.Errorf("another change is expected by epoch %d: expect the next one after it", m.changes()[m.core.changes.count-1].first_new)
 	case notLater:
 		return fmt.Errorf("epoch %d is in the chain: expect the new key by a later one", m.latestEpoch())
 	}

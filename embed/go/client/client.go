@@ -1,5 +1,5 @@
 // Package client is a client of a key directory that can't forget a step: it verifies signatures, the chain, VRF proofs,
-// authentication paths and the asked epoch.
+// authentication paths and the requested epoch.
 //
 //	it, err := client.New(client.Settings{SigningKey: key, VRFKey: vrfKey, Policy: &policy}) // what the directory publishes
 //	_, err = it.FeedCatchUp(catchUp)                                                         // all entries since the last one
@@ -70,16 +70,14 @@ type Trust struct {
 // Client is a client of one directory. New, Resume and Vouched make one: its zero value can't be used. All calls can be used from
 // several goroutines, and are made one after another. A client must not be copied: one of both would miss what the other is fed.
 type Client struct {
-	mutex         sync.Mutex
-	signatures    SignatureScheme
-	indices       IndexScheme
-	digest, trust [32]byte
-	quorum        int
-	clock         clock
-	memory        memory
+	mutex      sync.Mutex
+	signatures SignatureScheme
+	indices    IndexScheme
+	clock      clock
+	memory     *memory
 }
 
-// locked begins a call, and returns what ends it.
+// locked begins a call, and returns what ends it. Until then it refers to the client.
 func (c *Client) locked() (unlock func()) {
 	c.mutex.Lock()
 	return c.mutex.Unlock
@@ -91,21 +89,13 @@ func New(settings Settings) (*Client, error) {
 	if err != nil {
 		return nil, err
 	}
-	digest, err := settings.digest()
+	rules, auditors, err := settings.rules()
 	if err != nil {
 		return nil, err
 	}
-	clock, err := newClock(settings)
-	if err != nil {
-		return nil, err
-	}
-	it := &Client{signatures: signatures, indices: indices, digest: digest, clock: clock}
-	if trust := settings.Trust; trust != nil {
-		it.trust, it.quorum = trust.Digest, quorumOf(trust.Auditors, trust.Faulty)
-		if it.quorum == 0 {
-			return nil, errors.New("more than three auditors are needed for each one that may be faulty")
-		}
-		it.memory = newMemory(int(trust.Auditors))
+	it := &Client{signatures: signatures, indices: indices, clock: time.Now, memory: newMemory(rules, auditors)}
+	if settings.Clock != nil {
+		it.clock = settings.Clock
 	}
 	return it, nil
 }
@@ -117,7 +107,7 @@ func Resume(settings Settings, state []byte) (*Client, error) {
 	if err != nil {
 		return nil, err
 	}
-	if err := it.resume(copied(state)); err != nil {
+	if err := it.resume(state); err != nil {
 		return nil, err
 	}
 	return it, nil
@@ -134,7 +124,7 @@ func Vouched(settings Settings, entry []byte, heads map[string]coniks.Head, leas
 	if least < 1 {
 		return nil, errors.New("at least one auditor vouches for an entry: pass how many must")
 	}
-	if err := it.accept(copied(entry), it.memory.starting(heads, least)); err != nil {
+	if err := it.accept(entry, it.memory.starting(heads, least)); err != nil {
 		return nil, err
 	}
 	return it, nil
@@ -156,14 +146,17 @@ func (s *Settings) digest() ([32]byte, error) {
 // refuses. A client that goes on from an older state has forgotten what was accepted since.
 func (c *Client) State() []byte {
 	defer c.locked()()
-	return c.memory.state(&c.digest, &c.trust)
+	return c.memory.state()
 }
 
 // resume takes a state. It verifies the whole chain, and takes all of it or nothing.
-func (c *Client) resume(state []byte) error {
-	status, needs := stateNeeds(&c.digest, state)
+func (c *Client) resume(given []byte) error {
+	var in arena
+	defer in.free()
+	state := in.bytes(given)
+	status, needs := c.memory.stateNeeds(state)
 	if status == 0 {
-		status = c.memory.read(&c.digest, &c.trust, state, needs, c.stateVerdicts(state, needs))
+		status = c.memory.read(state, needs, c.stateVerdicts(state, needs))
 	}
 	return refused(status)
 }

@@ -78,9 +78,9 @@ func TestGreatNumbers(t *testing.T) {
 		settings := it.settings(1)
 		settings.Policy.EpochStart, settings.Policy.EpochPeriod = wanted.start, wanted.period
 		settings.Clock = nil
-		clock, err := newClock(settings)
+		made, err := New(settings)
 		good(t, err)
-		if age := clock.duration(wanted.epoch, now); *age != wanted.age {
+		if age := made.memory.duration(wanted.epoch, now); *age != wanted.age {
 			t.Error(wanted, *age)
 		}
 	}
@@ -93,7 +93,7 @@ func TestGreatNumbers(t *testing.T) {
 	settings := it.settings(1)
 	settings.Clock = func() time.Time { return time.Unix(math.MaxInt64/int64(time.Second)*2, 0) }
 	made := it.client(t, 1)
-	made.clock.read = settings.Clock
+	made.clock = settings.Clock
 	found, err := made.LookupAt("alice", it.reply(1), 1)
 	if err != nil || *found.Age != math.MaxInt64 {
 		t.Error(found, err)
@@ -102,24 +102,24 @@ func TestGreatNumbers(t *testing.T) {
 
 // A missing epoch is lost at the second at which its proofs end. A bare digest promises them for ever.
 func TestLost(t *testing.T) {
-	it, kept := newWorld(t, "AAA"), uint64(hour)
+	it, stored := newWorld(t, "AAA"), uint64(hour)
 	for _, wanted := range []struct {
-		kept *uint64
-		now  time.Time
-		lost string
+		stored *uint64
+		now    time.Time
+		lost   string
 	}{
-		{&kept, it.start(3).Add(-1), "[]"},
-		{&kept, it.start(3), "[1]"},
-		{&kept, it.start(4).Add(-1), "[1]"},
-		{&kept, it.start(4), "[1 2]"},
-		{&kept, it.start(1000000), "[1 2]"},
+		{&stored, it.start(3).Add(-1), "[]"},
+		{&stored, it.start(3), "[1]"},
+		{&stored, it.start(4).Add(-1), "[1]"},
+		{&stored, it.start(4), "[1 2]"},
+		{&stored, it.start(1000000), "[1 2]"},
 		{new(uint64), it.start(2).Add(-1), "[]"},
 		{new(uint64), it.start(2), "[1]"},
 		{new(uint64), time.Unix(-1, 0), "[]"},
 		{new(uint64), time.Time{}, "[]"},
 		{nil, it.start(1000000), "[]"},
 	} {
-		it := promisingWorld(t, "AAA", wanted.kept)
+		it := promisingWorld(t, "AAA", wanted.stored)
 		settings, now := it.settings(1), it.start(1)
 		settings.Clock = func() time.Time { return now }
 		made, err := New(settings)
@@ -161,12 +161,12 @@ func TestPromises(t *testing.T) {
 
 // What the caller does with the policy later changes nothing.
 func TestPolicyIsCopied(t *testing.T) {
-	kept := uint64(hour)
-	it := promisingWorld(t, "AAA", &kept)
+	stored := uint64(hour)
+	it := promisingWorld(t, "AAA", &stored)
 	settings := it.settings(3)
 	made, err := New(settings)
 	good(t, err)
-	kept, *settings.Policy = 0, coniks.Policy{}
+	stored, *settings.Policy = 0, coniks.Policy{}
 	good(t, made.WatchSince("alice", []byte("A"), 1))
 	_, err = made.Feed(it.chain)
 	good(t, err)

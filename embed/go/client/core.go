@@ -4,12 +4,14 @@ package client
 #cgo CFLAGS: -I${SRCDIR}/../../../include
 #cgo LDFLAGS: ${SRCDIR}/../../out/libconiks.a
 #include <stdlib.h>
+#include <string.h>
 #include <coniks_core.h>
 */
 import "C"
 
 import (
 	"encoding/binary"
+	"runtime"
 	"sort"
 	"unsafe"
 
@@ -33,40 +35,64 @@ const (
 
 const showsKey = 1
 
-// array is memory whose first elements the core writes and drops.
-type array[T any] struct {
-	memory []T
-	count  C.size_t
-}
-
-func (a *array[T]) get() []T { return a.memory[:a.count] }
-
-func (a *array[T]) room() C.size_t { return C.size_t(len(a.memory)) }
-
-// reserve makes room for more elements.
-func (a *array[T]) reserve(more int) {
-	if needed := int(a.count) + more; needed > len(a.memory) {
-		a.memory = append(make([]T, 0, needed+int(a.count)), a.get()...)
-		a.memory = a.memory[:cap(a.memory)]
-	}
-}
-
-// memory is what a client keeps: arrays that the core writes, and the watched name, of which the core is given copies. Nothing here decides
-// anything.
+// memory is the struct of a client in memory of C, with all that it points at, which the calls of the core write. Nothing here decides
+// anything. It is freed after the client: `locked` keeps a client until its call ends.
 type memory struct {
-	kept      array[C.coniks_kept]
-	alarms    array[C.coniks_alarm]
-	marks     []C.uint64_t
-	isWatched bool
-	name, key []byte
-	since     uint64
-	changes   []change
+	core *C.coniks_core
+	// texts has the watched name and the keys.
+	texts arena
 }
 
-// change is a change of the watched key, whose key has no byte for none.
-type change struct {
-	lastOld, firstNew uint64
-	key               []byte
+// newMemory returns the memory of a client that has seen nothing.
+func newMemory(rules C.coniks_rules, auditors C.size_t) *memory {
+	m := &memory{core: zeros[C.coniks_core](1)}
+	m.core.rules = rules
+	m.core.marks, m.core.mark_count = zeros[C.uint64_t](auditors), auditors
+	runtime.SetFinalizer(m, (*memory).free)
+	return m
+}
+
+func (m *memory) free() {
+	m.texts.free()
+	C.free(unsafe.Pointer(m.core.stored.items))
+	C.free(unsafe.Pointer(m.core.changes.items))
+	C.free(unsafe.Pointer(m.core.alarms.items))
+	C.free(unsafe.Pointer(m.core.marks))
+	C.free(unsafe.Pointer(m.core))
+}
+
+// zeros returns memory of C for elements, with all bytes 0. C.malloc ends the program if there is none.
+func zeros[T any](count C.size_t) *T {
+	if count == 0 {
+		return nil
+	}
+	var one T
+	bytes := count * C.size_t(unsafe.Sizeof(one))
+	return (*T)(C.memset(C.malloc(bytes), 0, bytes))
+}
+
+// reserve makes room for more elements of an array.
+func reserve[T any](items **T, room *C.size_t, count, more C.size_t) {
+	if count+more <= *room {
+		return
+	}
+	*room = 2*count + more
+	smaller := *items
+	*items = zeros[T](*room)
+	copy(unsafe.Slice(*items, count), unsafe.Slice(smaller, count))
+	C.free(unsafe.Pointer(smaller))
+}
+
+func (m *memory) stored() []C.coniks_stored_entry {
+	return unsafe.Slice(m.core.stored.items, m.core.stored.count)
+}
+
+func (m *memory) changes() []C.coniks_change {
+	return unsafe.Slice(m.core.changes.items, m.core.changes.count)
+}
+
+func (m *memory) alarms() []C.coniks_alarm {
+	return unsafe.Slice(m.core.alarms.items, m.core.alarms.count)
 }
 
 // latestEpoch is 0 before the first entry.
@@ -86,7 +112,7 @@ func (m *memory) placeOf(epoch uint64) int {
 	return place
 }
 
-func (m *memory) count() int { return int(m.kept.count) }
+func (m *memory) count() int { return int(m.core.stored.count) }
 
 // entryAt returns a copy of the entry at a place.
 func (m *memory) entryAt(place int) []byte {
@@ -101,31 +127,35 @@ func (m *memory) firstSeenAt(place int) uint64 {
 	return binary.BigEndian.Uint64(m.bytesAt(place)[coniks.EntryBytes:])
 }
 
-func (m *memory) seenAt(place int) Watched { return Watched(m.kept.memory[place].seen) }
+func (m *memory) seenAt(place int) Watched { return Watched(m.stored()[place].seen) }
 
-// bytesAt returns the bytes of the kept epoch at a place.
+// bytesAt returns the bytes of the stored epoch at a place.
 func (m *memory) bytesAt(place int) []byte {
-	return (*[C.sizeof_coniks_kept]byte)(unsafe.Pointer(&m.kept.memory[place]))[:]
+	return (*[C.sizeof_coniks_stored_entry]byte)(unsafe.Pointer(&m.stored()[place]))[:]
 }
 
-// arena has copies that structs of C point at during one call, as the rules of cgo ask.
+// arena has memory of C that is freed together.
 type arena []unsafe.Pointer
 
-// text returns a copy of bytes.
-func (a *arena) text(bytes []byte) (*C.uint8_t, C.size_t) {
-	copies, length := copiedIn(a, bytes)
-	return (*C.uint8_t)(copies), length
+// bytes returns a copy of bytes in memory of C, at which structs of C may point.
+func (a *arena) bytes(given []byte) []byte {
+	held := unsafe.Slice(roomIn[byte](a, size(given)), len(given))
+	copy(held, given)
+	return held
 }
 
-// copiedIn returns a copy of elements.
-func copiedIn[T any](in *arena, elements []T) (*T, C.size_t) {
-	if len(elements) == 0 {
-		return nil, 0
+// text returns a copy of bytes with their number.
+func (a *arena) text(given []byte) (*C.uint8_t, C.size_t) {
+	return text(a.bytes(given)), size(given)
+}
+
+// move copies bytes, and has a pointer to them point at the copy. A pointer to no byte may be any pointer.
+func (a *arena) move(start **C.uint8_t, length C.size_t) {
+	if length == 0 {
+		*start = nil
+		return
 	}
-	copies := C.malloc(size(elements) * C.size_t(unsafe.Sizeof(elements[0])))
-	*in = append(*in, copies)
-	copy(unsafe.Slice((*T)(copies), len(elements)), elements)
-	return (*T)(copies), size(elements)
+	*start, _ = a.text(unsafe.Slice((*byte)(*start), length))
 }
 
 func (a *arena) free() {
@@ -134,44 +164,33 @@ func (a *arena) free() {
 	}
 }
 
-// watched returns the watch and the changes as the core takes them.
-func (m *memory) watched(in *arena) (watch C.coniks_watch, changes []C.coniks_change) {
-	if m.isWatched {
-		watch.is_watched, watch.since = 1, C.uint64_t(m.since)
-		watch.name, watch.name_length = in.text(m.name)
-		watch.key, watch.key_length = in.text(m.key)
-	}
-	for _, one := range m.changes {
-		raw := C.coniks_change{last_old: C.uint64_t(one.lastOld), first_new: C.uint64_t(one.firstNew)}
-		raw.key, raw.key_length = in.text(one.key)
-		changes = append(changes, raw)
-	}
-	return watch, changes
+// roomIn returns memory of an arena for elements.
+func roomIn[T any](in *arena, count C.size_t) *T {
+	made := zeros[T](count)
+	*in = append(*in, unsafe.Pointer(made))
+	return made
 }
 
-// take copies the watch and the changes that the core has written.
-func (m *memory) take(watch C.coniks_watch, changes []C.coniks_change) {
-	m.isWatched, m.since = watch.is_watched == 1, uint64(watch.since)
-	m.name, m.key = bytesOf(watch.name, watch.name_length), bytesOf(watch.key, watch.key_length)
-	m.changes = nil
-	for _, raw := range changes {
-		m.changes = append(m.changes, change{uint64(raw.last_old), uint64(raw.first_new), bytesOf(raw.key, raw.key_length)})
+// owning returns the status of a call. If it is 0, the name and the keys may be in the call's arena: the client gets copies.
+func (m *memory) owning(status C.uint32_t) C.uint32_t {
+	if status == 0 {
+		m.own()
 	}
+	return status
 }
 
-// mark takes what the core has marked in the changes.
-func (m *memory) mark(changes []C.coniks_change) {
-	for at, raw := range changes {
-		m.changes[at].lastOld, m.changes[at].firstNew = uint64(raw.last_old), uint64(raw.first_new)
+// own copies the name and the keys, and frees those that the client had.
+func (m *memory) own() {
+	var texts arena
+	watch := &m.core.watch
+	texts.move(&watch.name, watch.name_length)
+	texts.move(&watch.key, watch.key_length)
+	for at := range m.changes() {
+		change := &m.changes()[at]
+		texts.move(&change.key, change.key_length)
 	}
-}
-
-// bytesOf returns a copy of bytes of C. A pointer to no byte may be any pointer.
-func bytesOf(start *C.uint8_t, length C.size_t) []byte {
-	if length == 0 {
-		return nil
-	}
-	return C.GoBytes(unsafe.Pointer(start), C.int(length))
+	m.texts.free()
+	m.texts = texts
 }
 
 // start returns where elements begin.
@@ -188,30 +207,27 @@ func size[T any](elements []T) C.size_t { return C.size_t(len(elements)) }
 
 func bytes32(bytes *[32]byte) *C.coniks_bytes32 { return (*C.coniks_bytes32)(unsafe.Pointer(bytes)) }
 
-func (m *memory) feed(policy *[32]byte, entry []byte, verdict C.uint32_t, now uint64) (status C.uint32_t, why C.coniks_why) {
-	var in arena
-	defer in.free()
-	m.kept.reserve(1)
-	watch, _ := m.watched(&in)
-	status = C.coniks_core_feed(bytes32(policy), start(m.kept.memory), m.kept.room(), &m.kept.count, &watch, start(m.marks),
-		size(m.marks), text(entry), size(entry), verdict, C.uint64_t(now), &why)
+// taking is a call of the core that takes an entry.
+type taking func(received C.coniks_received) (status C.uint32_t, why C.coniks_why)
+
+func (m *memory) feed(received C.coniks_received) (status C.uint32_t, why C.coniks_why) {
+	reserve(&m.core.stored.items, &m.core.stored.room, m.core.stored.count, 1)
+	status = C.coniks_core_feed(m.core, &received, &why)
 	return status, why
 }
 
-// taking is a call of the core that takes an entry.
-type taking func(policy *[32]byte, entry []byte, verdict C.uint32_t, now uint64) (status C.uint32_t, why C.coniks_why)
-
-// starting returns the call that takes the first entry, for which auditors have heads.
+// starting returns the call that takes the first entry, for which at least that number of auditors have heads.
 func (m *memory) starting(heads map[string]coniks.Head, least int) taking {
 	var rows []C.coniks_head
 	for _, head := range heads {
 		rows = append(rows, C.coniks_head{is_there: 1, epoch: C.uint64_t(head.Epoch), link: *bytes32(&head.Link)})
 	}
-	return func(policy *[32]byte, entry []byte, verdict C.uint32_t, now uint64) (status C.uint32_t, why C.coniks_why) {
-		var watch C.coniks_watch
-		m.kept.reserve(1)
-		status = C.coniks_core_start(bytes32(policy), start(m.kept.memory), m.kept.room(), &m.kept.count, &watch, start(rows),
-			size(rows), C.size_t(least), text(entry), size(entry), verdict, C.uint64_t(now), &why)
+	return func(received C.coniks_received) (status C.uint32_t, why C.coniks_why) {
+		reserve(&m.core.stored.items, &m.core.stored.room, m.core.stored.count, 1)
+		quorum := m.core.rules.quorum
+		m.core.rules.quorum = C.size_t(least)
+		status = C.coniks_core_start(m.core, start(rows), size(rows), &received, &why)
+		m.core.rules.quorum = quorum
 		return status, why
 	}
 }
@@ -227,7 +243,7 @@ func entriesOf(catchUp []byte) (entries [][]byte, status C.uint32_t) {
 }
 
 func (m *memory) replyNeeds(reply []byte) (status C.uint32_t, needs C.coniks_needs) {
-	status = C.coniks_core_reply_needs(start(m.kept.memory), m.kept.count, text(reply), size(reply), &needs)
+	status = C.coniks_core_reply_needs(m.core, text(reply), size(reply), &needs)
 	return status, needs
 }
 
@@ -238,21 +254,18 @@ type shown struct {
 	seen  Watched
 }
 
-func (m *memory) lookup(policy *[32]byte, present C.coniks_present, name string, reply []byte, epoch *uint64,
+// lookup takes a reply in memory of C.
+func (m *memory) lookup(name string, reply []byte, epoch *uint64, now C.uint64_t,
 	verdicts C.coniks_verdicts) (status C.uint32_t, found shown, why C.coniks_why) {
 	var in arena
 	defer in.free()
-	watch, changes := m.watched(&in)
-	var asking C.coniks_asking
 	var raw C.coniks_found
+	asking := C.coniks_asking{reply: text(reply), reply_length: size(reply), time: now}
 	asking.name, asking.name_length = in.text([]byte(name))
-	asking.reply, asking.reply_length = in.text(reply)
 	if epoch != nil {
-		asking.is_asked, asking.epoch = 1, C.uint64_t(*epoch)
+		asking.is_requested, asking.epoch = 1, C.uint64_t(*epoch)
 	}
-	status = C.coniks_core_lookup(bytes32(policy), &present, start(m.kept.memory), m.kept.count, &watch, start(changes),
-		size(changes), &asking, &verdicts, &raw, &why)
-	m.mark(changes)
+	status = C.coniks_core_lookup(m.core, &asking, &verdicts, &raw, &why)
 	found = shown{place: int(raw.place), seen: Watched(raw.seen)}
 	if raw.shows == showsKey {
 		found.key = copied(part(reply, raw.key_start, raw.key_length))
@@ -265,35 +278,39 @@ func historyNeeds(history []byte) (status C.uint32_t, needs C.coniks_history_nee
 	return status, needs
 }
 
-func (m *memory) history(name string, history []byte, verdicts C.coniks_verdicts) (status C.uint32_t, steps []shown) {
+// history takes a history in memory of C.
+func (m *memory) history(name string, history []byte, verdicts C.coniks_verdicts) (C.uint32_t, []shown) {
 	var in arena
 	defer in.free()
-	watch, changes := m.watched(&in)
-	var asking C.coniks_history
+	asking := C.coniks_history{history: text(history), history_length: size(history)}
 	asking.name, asking.name_length = in.text([]byte(name))
-	asking.history, asking.history_length = in.text(history)
 	var siblings C.coniks_siblings
-	var count C.size_t
-	raw := make([]C.coniks_step, m.count()+1)
-	status = C.coniks_core_history(start(m.kept.memory), m.kept.count, &watch, start(changes), size(changes), &asking, &verdicts,
-		&siblings, start(raw), size(raw), &count)
-	m.mark(changes)
-	for _, step := range raw[:count] {
+	room := m.core.stored.count + 1
+	steps := C.coniks_steps{items: roomIn[C.coniks_step](&in, room), room: room}
+	status := C.coniks_core_history(m.core, &asking, &verdicts, &siblings, &steps)
+	return status, shownIn(unsafe.Slice(steps.items, steps.count))
+}
+
+// shownIn returns what steps show. A key that a history sends once is one slice, however many steps show it.
+func shownIn(steps []C.coniks_step) (all []shown) {
+	keys := map[*C.uint8_t][]byte{}
+	for at := range steps {
+		step := &steps[at]
 		one := shown{place: int(step.place), seen: Watched(step.seen)}
 		if step.shows == showsKey {
-			// A key that a history repeats is one slice, however long it is.
-			from := C.size_t(uintptr(unsafe.Pointer(step.key)) - uintptr(unsafe.Pointer(asking.history)))
-			one.key = part(history, from, step.key_length)
+			if keys[step.key] == nil {
+				keys[step.key] = part(copied(unsafe.Slice((*byte)(step.key), step.key_length)), 0, step.key_length)
+			}
+			one.key = keys[step.key]
 		}
-		steps = append(steps, one)
+		all = append(all, one)
 	}
-	return status, steps
+	return all
 }
 
 func (m *memory) beginWatch(name string, key []byte, since *uint64) C.uint32_t {
 	var in arena
 	defer in.free()
-	watch, changes := m.watched(&in)
 	wanted := C.coniks_watch{is_watched: 1}
 	wanted.name, wanted.name_length = in.text([]byte(name))
 	wanted.key, wanted.key_length = in.text(key)
@@ -301,134 +318,101 @@ func (m *memory) beginWatch(name string, key []byte, since *uint64) C.uint32_t {
 	if since != nil {
 		wanted.since, isSince = C.uint64_t(*since), 1
 	}
-	status := C.coniks_core_watch(start(m.kept.memory), m.kept.count, &watch, start(changes), size(changes), &wanted, isSince)
-	if status == 0 {
-		m.take(watch, changes)
-	}
-	return status
+	return m.owning(C.coniks_core_watch(m.core, &wanted, isSince))
 }
 
 func (m *memory) expect(key []byte, by uint64) C.uint32_t {
 	var in arena
 	defer in.free()
-	watch, changes := m.watched(&in)
-	count := size(changes)
-	changes = append(changes, C.coniks_change{})
+	reserve(&m.core.changes.items, &m.core.changes.room, m.core.changes.count, 1)
 	at, length := in.text(key)
-	status := C.coniks_core_expect(start(m.kept.memory), m.kept.count, &watch, start(changes), size(changes), &count, at, length,
-		C.uint64_t(by))
-	if status == 0 {
-		m.take(watch, changes[:count])
-	}
-	return status
+	return m.owning(C.coniks_core_expect(m.core, at, length, C.uint64_t(by)))
 }
 
 func (m *memory) compare(head coniks.Head) C.uint32_t {
 	var place C.size_t
-	return C.coniks_core_compare(start(m.kept.memory), m.kept.count, C.uint64_t(head.Epoch), bytes32(&head.Link), &place)
+	return C.coniks_core_compare(m.core, C.uint64_t(head.Epoch), bytes32(&head.Link), &place)
 }
 
-func (m *memory) evidence(entry []byte, verdict C.uint32_t) (status C.uint32_t, why C.coniks_why) {
-	status = C.coniks_core_evidence(start(m.kept.memory), m.kept.count, text(entry), size(entry), verdict, &why)
+func (m *memory) evidence(received C.coniks_received) (status C.uint32_t, why C.coniks_why) {
+	status = C.coniks_core_evidence(m.core, &received, &why)
 	return status, why
 }
 
-func newMemory(auditors int) memory { return memory{marks: make([]C.uint64_t, auditors)} }
-
-func quorumOf(auditors, faulty uint32) int {
-	return int(C.coniks_core_quorum(C.size_t(auditors), C.size_t(faulty)))
-}
-
 func (m *memory) markHead(auditor int, head coniks.Head) C.uint32_t {
-	return C.coniks_core_mark(start(m.kept.memory), m.kept.count, start(m.marks), size(m.marks), C.size_t(auditor),
-		C.uint64_t(head.Epoch), bytes32(&head.Link))
+	return C.coniks_core_mark(m.core, C.size_t(auditor), C.uint64_t(head.Epoch), bytes32(&head.Link))
 }
 
-func (m *memory) confirmed(quorum int) (status C.uint32_t, epoch C.uint64_t) {
-	status = C.coniks_core_confirmed(start(m.marks), size(m.marks), C.size_t(quorum), &epoch)
+func (m *memory) confirmed() (status C.uint32_t, epoch C.uint64_t) {
+	status = C.coniks_core_confirmed(m.core, &epoch)
 	return status, epoch
 }
 
-func (m *memory) relied(place, quorum int) C.uint32_t {
-	return C.coniks_core_relied(start(m.kept.memory), m.kept.count, C.size_t(place), start(m.marks), size(m.marks),
-		C.size_t(quorum))
+func (m *memory) relied(place int) C.uint32_t {
+	return C.coniks_core_relied(m.core, C.size_t(place))
 }
 
-// cover drops epochs by marks, and returns how many went. There is room for an alarm of each.
-func (m *memory) cover(present C.coniks_present, promise C.coniks_promise, marks []C.uint64_t, quorum int) int {
-	var in arena
-	defer in.free()
-	m.alarms.reserve(m.count())
-	watch, changes := m.watched(&in)
-	count, covered := size(changes), C.coniks_covered{}
-	status := C.coniks_core_cover(&present, &promise, start(m.kept.memory), m.kept.room(), &m.kept.count, start(marks),
-		size(marks), C.size_t(quorum), &watch, start(changes), size(changes), &count, start(m.alarms.memory), m.alarms.room(),
-		&m.alarms.count, &covered)
-	if status != 0 {
+// cover drops epochs by the marks, and returns how many went. There is room for an alarm of each. The keys of dropped changes are freed.
+func (m *memory) cover(now C.uint64_t) int {
+	reserve(&m.core.alarms.items, &m.core.alarms.room, m.core.alarms.count, m.core.stored.count)
+	var covered C.coniks_covered
+	if C.coniks_core_cover(m.core, now, &covered) != 0 {
 		return 0
 	}
-	m.take(watch, changes[:count])
+	if covered.changes > 0 {
+		m.own()
+	}
 	return int(covered.epochs)
 }
 
-func (m *memory) note(epoch uint64) C.uint32_t {
-	return C.coniks_core_note(start(m.alarms.memory), m.alarms.room(), &m.alarms.count, C.uint64_t(epoch))
-}
-
-func (m *memory) report(present C.coniks_present, promise C.coniks_promise, quorum int) (status C.uint32_t, report C.coniks_report) {
+// coverBy is cover with the epoch of one head in place of the marks.
+func (m *memory) coverBy(now C.uint64_t, head coniks.Head) int {
 	var in arena
 	defer in.free()
-	watch, _ := m.watched(&in)
-	status = C.coniks_core_report(&present, start(m.kept.memory), m.kept.count, &watch, &promise, start(m.alarms.memory), m.alarms.count,
-		start(m.marks), size(m.marks), C.size_t(quorum), &report)
+	marks, count, quorum := m.core.marks, m.core.mark_count, m.core.rules.quorum
+	m.core.marks, m.core.mark_count, m.core.rules.quorum = roomIn[C.uint64_t](&in, 1), 1, 1
+	*m.core.marks = C.uint64_t(head.Epoch)
+	dropped := m.cover(now)
+	m.core.marks, m.core.mark_count, m.core.rules.quorum = marks, count, quorum
+	return dropped
+}
+
+func (m *memory) note(epoch uint64) C.uint32_t {
+	return C.coniks_core_note(m.core, C.uint64_t(epoch))
+}
+
+func (m *memory) report(now C.uint64_t) (status C.uint32_t, report C.coniks_report) {
+	status = C.coniks_core_report(m.core, now, &report)
 	return status, report
 }
 
-func (m *memory) isLost(present C.coniks_present, promise C.coniks_promise, place int) bool {
-	return C.coniks_core_lost(&present, &promise, start(m.kept.memory), m.kept.count, C.size_t(place)) == 1
+func (m *memory) isLost(now C.uint64_t, place int) bool {
+	return C.coniks_core_lost(m.core, now, C.size_t(place)) == 1
 }
 
 // state returns the bytes of a state, nil if what is kept has none.
-func (m *memory) state(policy, trust *[32]byte) []byte {
-	var in arena
-	defer in.free()
-	watch, changes := m.watched(&in)
-	saved := C.coniks_saved{watch: watch, trust: *bytes32(trust)}
-	saved.kept, saved.count = copiedIn(&in, m.kept.get())
-	saved.changes, saved.change_count = copiedIn(&in, changes)
-	saved.alarms, saved.alarm_count = copiedIn(&in, m.alarms.get())
-	saved.marks, saved.mark_count = copiedIn(&in, m.marks)
+func (m *memory) state() []byte {
 	var length C.size_t
-	if C.coniks_core_state_size(bytes32(policy), &saved, &length) != 0 {
+	if C.coniks_core_state_size(m.core, &length) != 0 {
 		return nil
 	}
 	out := make([]byte, int(length))
-	if C.coniks_core_state_write(bytes32(policy), &saved, text(out), size(out), &length) != 0 {
+	if C.coniks_core_state_write(m.core, text(out), size(out), &length) != 0 {
 		return nil
 	}
 	return out
 }
 
-func stateNeeds(policy *[32]byte, state []byte) (status C.uint32_t, needs C.coniks_state_needs) {
-	status = C.coniks_core_state_needs(bytes32(policy), text(state), size(state), &needs)
+func (m *memory) stateNeeds(state []byte) (status C.uint32_t, needs C.coniks_state_needs) {
+	status = C.coniks_core_state_needs(m.core, text(state), size(state), &needs)
 	return status, needs
 }
 
-// read takes what a state has, which needs so much room.
-func (m *memory) read(policy, trust *[32]byte, state []byte, needs C.coniks_state_needs, verdicts []C.uint32_t) C.uint32_t {
-	var in arena
-	defer in.free()
-	m.kept.reserve(int(needs.kept))
-	m.alarms.reserve(int(needs.alarms))
-	var watch C.coniks_watch
-	var count C.size_t
-	changes := make([]C.coniks_change, int(needs.changes))
-	at, length := in.text(state)
-	status := C.coniks_core_state_read(bytes32(policy), at, length, start(verdicts), size(verdicts), bytes32(trust),
-		start(m.kept.memory), m.kept.room(), &m.kept.count, &watch, start(changes), size(changes), &count,
-		start(m.alarms.memory), m.alarms.room(), &m.alarms.count, start(m.marks), size(m.marks))
-	if status == 0 {
-		m.take(watch, changes[:count])
-	}
-	return status
+// read takes what a state in memory of C has, which needs so much room.
+func (m *memory) read(state []byte, needs C.coniks_state_needs, verdicts []C.uint32_t) C.uint32_t {
+	core := m.core
+	reserve(&core.stored.items, &core.stored.room, core.stored.count, needs.stored)
+	reserve(&core.changes.items, &core.changes.room, core.changes.count, needs.changes)
+	reserve(&core.alarms.items, &core.alarms.room, core.alarms.count, needs.alarms)
+	return m.owning(C.coniks_core_state_read(core, text(state), size(state), start(verdicts), size(verdicts)))
 }

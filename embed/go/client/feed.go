@@ -31,7 +31,7 @@ func (c *Client) Feed(entries [][]byte) ([]Step, error) {
 	defer c.locked()()
 	steps := make([]Step, 0, len(entries))
 	for _, entry := range entries {
-		if err := c.accept(copied(entry), c.memory.feed); err != nil {
+		if err := c.accept(entry, c.memory.feed); err != nil {
 			return nil, err
 		}
 		steps = append(steps, Step{c.memory.latestEpoch(), c.memory.seenAt(c.memory.count() - 1)})
@@ -49,12 +49,15 @@ func (c *Client) FeedCatchUp(catchUp []byte) ([]Step, error) {
 }
 
 // accept verifies an entry, and lets the core take it.
-func (c *Client) accept(entry []byte, take taking) error {
+func (c *Client) accept(given []byte, take taking) error {
+	var in arena
+	defer in.free()
+	entry := in.bytes(given)
 	now, err := c.clock.now()
 	if err != nil {
 		return err
 	}
-	status, why := take(&c.digest, entry, c.entryVerdict(entry), uint64(now.Unix()))
+	status, why := take(c.received(entry, seconds(now)))
 	return c.accepted(status, why, entry)
 }
 
@@ -79,14 +82,14 @@ func (c *Client) evidence(why C.coniks_why, entry []byte) *Evidence {
 	if why.kind == 0 {
 		return nil
 	}
-	mine := entry
+	mine := copied(entry)
 	if place := int(why.mine); place >= 0 && place < c.memory.count() {
 		mine = c.memory.entryAt(place)
 	}
 	return &Evidence{Mine: mine, Other: copied(entry), Kind: coniks.EvidenceKind(why.kind)}
 }
 
-// Entries returns the entries that are kept, in the order of the chain.
+// Entries returns the entries that are stored, in the order of the chain.
 func (c *Client) Entries() [][]byte {
 	defer c.locked()()
 	entries := make([][]byte, 0, c.memory.count())
@@ -121,8 +124,8 @@ func (c *Client) Compare(head coniks.Head) Comparison {
 func (c *Client) Cover(head coniks.Head) Comparison {
 	defer c.locked()()
 	found := Comparison(c.memory.compare(head))
-	if found == Equal && c.quorum == 0 {
-		c.drop([]C.uint64_t{C.uint64_t(head.Epoch)}, 1)
+	if found == Equal && c.memory.core.rules.quorum == 0 {
+		c.memory.coverBy(seconds(c.clock()), head)
 	}
 	return found
 }
@@ -131,8 +134,10 @@ func (c *Client) Cover(head coniks.Head) Comparison {
 // entry is not signed.
 func (c *Client) Evidence(otherEntry []byte) (*Evidence, error) {
 	defer c.locked()()
-	entry := copied(otherEntry)
-	status, why := c.memory.evidence(entry, c.entryVerdict(entry))
+	var in arena
+	defer in.free()
+	entry := in.bytes(otherEntry)
+	status, why := c.memory.evidence(c.received(entry, 0))
 	if status != noEvidence {
 		return c.evidence(why, entry), refused(status)
 	}
@@ -140,5 +145,5 @@ func (c *Client) Evidence(otherEntry []byte) (*Evidence, error) {
 	if err != nil || kind == coniks.NoEvidence {
 		return nil, err
 	}
-	return &Evidence{Mine: entry, Other: copied(entry), Kind: kind}, nil
+	return &Evidence{Mine: copied(entry), Other: copied(entry), Kind: kind}, nil
 }

@@ -328,8 +328,8 @@ func TestGivenToSchemes(t *testing.T) {
 	wants(t, err, EntryLength)
 	_, err = made.LookupAt("alice", reply, 2)
 	wants(t, err, VRFProof)
-	asked := hex.EncodeToString(append([]byte("alice"), reply[212:292]...))
-	if wanted := []string{wanted.Entries[0], wanted.Entries[1], asked}; fmt.Sprint(given) != fmt.Sprint(wanted) {
+	requested := hex.EncodeToString(append([]byte("alice"), reply[212:292]...))
+	if wanted := []string{wanted.Entries[0], wanted.Entries[1], requested}; fmt.Sprint(given) != fmt.Sprint(wanted) {
 		t.Errorf("got %s, wanted %s", given, wanted)
 	}
 }

@@ -37,7 +37,9 @@ func (c *Client) LookupAt(name string, reply []byte, epoch uint64) (*Found, erro
 
 func (c *Client) lookup(name string, whole []byte, epoch *uint64) (*Found, error) {
 	defer c.locked()()
-	reply := copied(whole)
+	var in arena
+	defer in.free()
+	reply := in.bytes(whole)
 	status, needs := c.memory.replyNeeds(reply)
 	if status != 0 {
 		return nil, refusal(Cause(status))
@@ -47,7 +49,7 @@ func (c *Client) lookup(name string, whole []byte, epoch *uint64) (*Found, error
 		return nil, err
 	}
 	verdicts := c.replyVerdicts(name, reply, needs)
-	status, shown, why := c.memory.lookup(&c.digest, c.clock.at(now), name, reply, epoch, verdicts)
+	status, shown, why := c.memory.lookup(name, reply, epoch, seconds(now), verdicts)
 	if err := c.accepted(status, why, part(reply, needs.entry_start, coniks.EntryBytes)); err != nil {
 		return nil, err
 	}
@@ -59,7 +61,9 @@ func (c *Client) lookup(name string, whole []byte, epoch *uint64) (*Found, error
 // keeps nothing of the history.
 func (c *Client) History(name string, whole []byte) ([]Found, error) {
 	defer c.locked()()
-	history := copied(whole)
+	var in arena
+	defer in.free()
+	history := in.bytes(whole)
 	status, needs := historyNeeds(history)
 	if status != 0 {
 		return nil, refusal(Cause(status))
@@ -83,5 +87,5 @@ func (c *Client) History(name string, whole []byte) ([]Found, error) {
 // found returns what is shown, with what the client knows of its epoch.
 func (c *Client) found(what shown, now time.Time) Found {
 	epoch := c.memory.epochAt(what.place)
-	return Found{epoch, what.key, what.seen, c.clock.duration(epoch, now), c.memory.firstSeenAt(what.place)}
+	return Found{epoch, what.key, what.seen, c.memory.duration(epoch, now), c.memory.firstSeenAt(what.place)}
 }

@@ -12,6 +12,11 @@ import (
 // The verdicts on signatures and VRF proofs, which a client passes to the core. Each of them is made here, and nowhere else. The core
 // proves nothing about signatures: an entry or an index that is wrongly taken for valid here is accepted.
 
+// received returns an entry in memory of C with its verdict, as the core takes it.
+func (c *Client) received(entry []byte, now C.uint64_t) C.coniks_received {
+	return C.coniks_received{entry: text(entry), entry_length: size(entry), signature: c.entryVerdict(entry), time: now}
+}
+
 // entryVerdict is the verdict on the signature of an entry. Bytes of another length have none.
 func (c *Client) entryVerdict(entry []byte) C.uint32_t {
 	if len(entry) == coniks.EntryBytes && c.signatures.Verify(copied(entry[:coniks.BodyBytes]), copied(entry[coniks.BodyBytes:])) {
@@ -31,7 +36,7 @@ func (c *Client) replyVerdicts(name string, reply []byte, needs C.coniks_needs) 
 
 // indexVerdict is that on the VRF proof of a name, with the index.
 func (c *Client) indexVerdict(name string, proof []byte) (verdicts C.coniks_verdicts) {
-	if index, isValid := c.indices.Index(name, proof); isValid {
+	if index, isValid := c.indices.Index(name, copied(proof)); isValid {
 		verdicts.index, verdicts.at = 1, *(*C.coniks_bytes32)(unsafe.Pointer(&index))
 	}
 	return verdicts
@@ -39,8 +44,8 @@ func (c *Client) indexVerdict(name string, proof []byte) (verdicts C.coniks_verd
 
 // stateVerdicts are those on the signatures of the entries of a state.
 func (c *Client) stateVerdicts(state []byte, needs C.coniks_state_needs) []C.uint32_t {
-	verdicts := make([]C.uint32_t, 0, int(needs.kept)+1)
-	for at := C.size_t(0); at < needs.kept; at++ {
+	verdicts := make([]C.uint32_t, 0, int(needs.stored)+1)
+	for at := C.size_t(0); at < needs.stored; at++ {
 		verdicts = append(verdicts, c.entryVerdict(part(state, needs.entry_start+at*needs.entry_step, coniks.EntryBytes)))
 	}
 	return verdicts

@@ -34,11 +34,11 @@ type Verdict uint8
 const (
 	// ReportChanged means that the epoch shows another key, or no key.
 	ReportChanged Verdict = iota + 1
-	// ReportMissing means that the kept epoch is missing, and not lost.
+	// ReportMissing means that the stored epoch is missing, and not lost.
 	ReportMissing
 	// ReportLost means that the epoch is lost.
 	ReportLost
-	// ReportUnwatched means that no kept epoch is watched.
+	// ReportUnwatched means that no stored epoch is watched.
 	ReportUnwatched
 	// ReportUnconfirmed means that each epoch shows the expected key, but that no quorum of auditors confirms the latest one.
 	ReportUnconfirmed
@@ -78,7 +78,7 @@ func (c *Client) watchFrom(name string, key []byte, since *uint64) error {
 // watched, and while another change is open: until the chain has its epoch `by` or a later one, or an epoch showed its key.
 func (c *Client) Expect(key []byte, by uint64) error {
 	defer c.locked()()
-	if isEmpty(key) && c.memory.isWatched {
+	if isEmpty(key) && c.memory.core.watch.is_watched == 1 {
 		return errEmptyKey
 	}
 	return c.memory.misuse(c.memory.expect(key, by), "")
@@ -94,8 +94,8 @@ func (c *Client) Missing() []uint64 {
 // no longer be verified, never that they are the same.
 func (c *Client) Lost() []uint64 {
 	defer c.locked()()
-	present, promise := c.clock.at(c.clock.read()), c.clock.promise
-	return c.missing(func(place int) bool { return c.memory.isLost(present, promise, place) })
+	now := seconds(c.clock())
+	return c.missing(func(place int) bool { return c.memory.isLost(now, place) })
 }
 
 // missing returns the missing epochs at some places.
@@ -112,7 +112,7 @@ func (c *Client) missing(isWanted func(place int) bool) (epochs []uint64) {
 func (c *Client) Alarms() []Alarm {
 	defer c.locked()()
 	var alarms []Alarm
-	for _, one := range c.memory.alarms.get() {
+	for _, one := range c.memory.alarms() {
 		alarms = append(alarms, Alarm{uint64(one.epoch), Watched(one.seen)})
 	}
 	return alarms
@@ -128,7 +128,7 @@ func (c *Client) Note(epoch uint64) {
 // ReportGood.
 func (c *Client) Report() (Report, error) {
 	defer c.locked()()
-	status, report := c.memory.report(c.clock.at(c.clock.read()), c.clock.promise, c.quorum)
+	status, report := c.memory.report(seconds(c.clock()))
 	if err := c.memory.misuse(status, ""); err != nil {
 		return Report{}, err
 	}
@@ -149,15 +149,15 @@ func (c *Client) Mark(auditor int, head coniks.Head) (Comparison, error) {
 // Confirmed returns the latest epoch that a quorum of the auditors confirms, and whether there is one.
 func (c *Client) Confirmed() (epoch uint64, isThere bool) {
 	defer c.locked()()
-	status, found := c.memory.confirmed(c.quorum)
+	status, found := c.memory.confirmed()
 	return uint64(found), status == 0
 }
 
-// IsRelied returns whether a quorum of the auditors confirms a kept epoch, for example that of what was found. It returns a *Refusal
+// IsRelied returns whether a quorum of the auditors confirms a stored epoch, for example that of what was found. It returns a *Refusal
 // if the epoch is not kept.
 func (c *Client) IsRelied(epoch uint64) (bool, error) {
 	defer c.locked()()
-	status := c.memory.relied(c.memory.placeOf(epoch), c.quorum)
+	status := c.memory.relied(c.memory.placeOf(epoch))
 	if status == notConfirmed {
 		return false, nil
 	}
@@ -168,13 +168,9 @@ func (c *Client) IsRelied(epoch uint64) (bool, error) {
 // watched one that was not seen as the same leaves an alarm. No reply for a dropped epoch is accepted: ask for missing ones first.
 func (c *Client) Drop() []uint64 {
 	defer c.locked()()
-	return c.drop(c.memory.marks, c.quorum)
-}
-
-func (c *Client) drop(marks []C.uint64_t, quorum int) []uint64 {
 	epochs := make([]uint64, c.memory.count())
 	for place := range epochs {
 		epochs[place] = c.memory.epochAt(place)
 	}
-	return epochs[:c.memory.cover(c.clock.at(c.clock.read()), c.clock.promise, marks, quorum)]
+	return epochs[:c.memory.cover(seconds(c.clock()))]
 }

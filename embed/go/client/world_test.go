@@ -138,8 +138,8 @@ func newWorld(t testing.TB, keys string) *world {
 }
 
 // promisingWorld is a world that promises proofs for a number of seconds, or for ever.
-func promisingWorld(t testing.TB, keys string, kept *uint64) *world {
-	return worldOf(t, keys, coniks.Policy{EpochStart: 1000, EpochPeriod: hour, ProofsKept: kept})
+func promisingWorld(t testing.TB, keys string, stored *uint64) *world {
+	return worldOf(t, keys, coniks.Policy{EpochStart: 1000, EpochPeriod: hour, ProofsKept: stored})
 }
 
 // worldOf is a world with the clock and the promise of a policy.

@@ -16,14 +16,14 @@ fn hex(bytes: &[u8]) -> String {
     bytes.iter().map(|it| format!("{it:02x}")).collect()
 }
 
-fn said(answer: Result<String, Error>) -> String {
+fn printed(answer: Result<String, Error>) -> String {
     answer.unwrap_or_else(|error| format!("refused {}", error as u32))
 }
 
 fn check(words: &[&str]) -> String {
     let (name, proof) = (bytes(words[3]), bytes(words[4]));
     let key = coniks::check(&bytes32(words[0]), &bytes32(words[1]), &bytes32(words[2]), &name, &proof);
-    said(key.map(|it| it.map_or("absent".into(), |key| format!("key {}", hex(key)))))
+    printed(key.map(|it| it.map_or("absent".into(), |key| format!("key {}", hex(key)))))
 }
 
 fn body(entry: &[u8]) -> Result<String, Error> {
@@ -42,7 +42,7 @@ fn seen(it: Seen) -> String {
 
 /// The name, the index and the key of the monitor, and both auditors.
 #[derive(Default)]
-struct Held {
+struct Session {
     name: Vec<u8>,
     index: [u8; 32],
     expected: Vec<u8>,
@@ -50,13 +50,13 @@ struct Held {
     auditor: Auditor,
 }
 
-impl Held {
+impl Session {
     fn step(&mut self, words: &[&str]) -> String {
         let auditor = Auditor::resume(self.watching.state());
         let mut monitor = Monitor { name: &self.name, index: self.index, expected: &self.expected, auditor };
         let answer = monitor.step(&bytes(words[0]), words[1] == "1", &bytes(words[2]));
         self.watching = monitor.auditor;
-        said(answer.map(seen))
+        printed(answer.map(seen))
     }
 
     fn answer(&mut self, word: &str, words: &[&str]) -> String {
@@ -66,8 +66,8 @@ impl Held {
                 self.auditor = Auditor::new();
                 hex(&self.auditor.state())
             }
-            "feed" => said(self.auditor.feed(&bytes(words[0]), words[1] == "1").map(|()| "follows".into())),
-            "head" => said(self.auditor.head().map(|it| format!("{} {}", it.epoch, hex(&it.link))).ok_or(Error::NoEntry)),
+            "feed" => printed(self.auditor.feed(&bytes(words[0]), words[1] == "1").map(|()| "follows".into())),
+            "head" => printed(self.auditor.head().map(|it| format!("{} {}", it.epoch, hex(&it.link))).ok_or(Error::NoEntry)),
             "resume" => {
                 self.auditor = Auditor::resume(self.auditor.state());
                 hex(&self.auditor.state())
@@ -81,9 +81,9 @@ impl Held {
                 "expected".into()
             }
             "step" => self.step(words),
-            "convicts" => said(coniks::convicts(&bytes(words[0]), &bytes(words[1])).map(kind)),
-            "link" => said(coniks::link(&bytes(words[0])).map(|it| hex(&it))),
-            "body" => said(body(&bytes(words[0]))),
+            "convicts" => printed(coniks::convicts(&bytes(words[0]), &bytes(words[1])).map(kind)),
+            "link" => printed(coniks::link(&bytes(words[0])).map(|it| hex(&it))),
+            "body" => printed(body(&bytes(words[0]))),
             "text" => coniks::text(words[0].parse().expect("a number"), &mut [0; 128]).into(),
             _ => coniks::version().map(|it| it.to_string()).join("."),
         }
@@ -91,10 +91,10 @@ impl Held {
 }
 
 fn main() {
-    let mut held = Held::default();
+    let mut session = Session::default();
     for line in stdin().lock().lines() {
         let line = line.expect("a line");
         let words: Vec<&str> = line.split(' ').collect();
-        println!("{}", held.answer(words[0], &words[1..]));
+        println!("{}", session.answer(words[0], &words[1..]));
     }
 }

@@ -32,8 +32,8 @@ fn look_up(words: &[String], epoch: Option<u64>) -> Result<String, Box<dyn Error
 fn main() -> ExitCode {
     let mut words: Vec<String> = std::env::args().skip(1).collect();
     let epoch = if words.len() == 7 { words.pop().map(|it| it.parse()) } else { None };
-    let said = epoch.transpose().map_err(Into::into).and_then(|epoch| look_up(&words, epoch));
-    match said {
+    let printed = epoch.transpose().map_err(Into::into).and_then(|epoch| look_up(&words, epoch));
+    match printed {
         Ok(key) => println!("{key}"),
         Err(error) => {
             eprintln!("{error}");

@@ -50,7 +50,7 @@ fn hex(bytes: &[u8]) -> String {
     bytes.iter().map(|it| format!("{it:02x}")).collect()
 }
 
-fn said<T: ToString>(value: Option<T>) -> String {
+fn printed<T: ToString>(value: Option<T>) -> String {
     value.map_or("-".into(), |it| it.to_string())
 }
 
@@ -64,7 +64,7 @@ fn seen(it: Option<Watched>) -> String {
 
 fn found(it: &Found) -> String {
     let key = it.key.as_deref().map(hex);
-    format!("{} {} {} {} {}", it.epoch, said(key), seen(it.seen), said(it.age), it.first_seen)
+    format!("{} {} {} {} {}", it.epoch, printed(key), seen(it.seen), printed(it.age), it.first_seen)
 }
 
 fn evidence(it: Option<&Evidence>) -> String {
@@ -80,7 +80,7 @@ fn evidence(it: Option<&Evidence>) -> String {
 
 fn refused(it: &Refusal) -> String {
     let name = if it.cause == Cause::VersionUnknown { "Version".into() } else { format!("{:?}", it.cause) };
-    format!("refused {name} {} {}", said(it.status.map(|it| it as u32)), evidence(it.evidence.as_deref()))
+    format!("refused {name} {} {}", printed(it.status.map(|it| it as u32)), evidence(it.evidence.as_deref()))
 }
 
 fn compared(it: Comparison) -> String {
@@ -113,13 +113,13 @@ fn report(it: &Report) -> String {
 
 /// The client, the time of its clock, and the trust document that the next client names.
 #[derive(Default)]
-struct Held {
+struct Session {
     now: Arc<AtomicU64>,
     trust: Option<Trust>,
     client: Option<Client>,
 }
 
-impl Held {
+impl Session {
     /// The keys, the policy and the settings of the first six words.
     fn parts(&mut self, words: &[&str]) -> Result<(Keys, Policy, Settings), Fault> {
         self.client = None;
@@ -195,13 +195,13 @@ impl Held {
             }
             "missing" => listed("missing", client.missing().iter().map(u64::to_string)),
             "lost" => listed("lost", client.lost().iter().map(u64::to_string)),
-            "head" => format!("head {}", said(client.head().map(|it| format!("{} {}", it.epoch, hex(&it.link))))),
+            "head" => format!("head {}", printed(client.head().map(|it| format!("{} {}", it.epoch, hex(&it.link))))),
             "compare" => compared(client.compare(&head(words[1], words[2])?)),
             "cover" => compared(client.cover(&head(words[1], words[2])?)),
             "evidence" => format!("evidence {}", evidence(client.evidence(&bytes(words[1]))?.as_ref())),
             "state" => format!("state {}", hex(&client.state())),
             "mark" => compared(client.mark(number(words[1]) as usize, &head(words[2], words[3])?)?),
-            "confirmed" => format!("confirmed {}", said(client.confirmed())),
+            "confirmed" => format!("confirmed {}", printed(client.confirmed())),
             "drop" => listed("dropped", client.drop_confirmed().iter().map(u64::to_string)),
             "alarms" => alarms(&client.alarms()),
             "note" => {
@@ -215,13 +215,13 @@ impl Held {
 }
 
 fn main() {
-    let mut held = Held::default();
+    let mut session = Session::default();
     for line in stdin().lock().lines() {
         let line = line.expect("a line");
         let words: Vec<&str> = line.split(' ').collect();
         println!(
             "{}",
-            held.answer(&words).unwrap_or_else(|fault| match fault {
+            session.answer(&words).unwrap_or_else(|fault| match fault {
                 Fault::Refused(it) => refused(&it),
                 Fault::Misused => "misuse".into(),
             })

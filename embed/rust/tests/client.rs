@@ -79,8 +79,8 @@ fn other_documents_are_no_policy() {
     let origin = |size| POLICY.replace("keys.example.com/directory", &"x".repeat(size));
     assert!(Policy::read(origin(255).as_bytes()).is_ok() && Policy::read(origin(256).as_bytes()).is_err());
     assert_eq!(Policy::read(&[0xff; 40]), Err(PolicyError::Form));
-    let kept = Policy::read(POLICY.replace("forever", "18446744073709551615").as_bytes()).expect("a policy");
-    assert_eq!(kept.proofs_kept(), Some(u64::MAX));
+    let stored = Policy::read(POLICY.replace("forever", "18446744073709551615").as_bytes()).expect("a policy");
+    assert_eq!(stored.proofs_kept(), Some(u64::MAX));
 }
 
 #[test]
@@ -320,7 +320,7 @@ struct Scheme {
 }
 
 impl Scheme {
-    fn said(&self) -> bool {
+    fn printed(&self) -> bool {
         assert!(!self.panics.load(Ordering::Relaxed), "as it is told to");
         self.result.load(Ordering::Relaxed)
     }
@@ -328,13 +328,13 @@ impl Scheme {
 
 impl SignatureScheme for Scheme {
     fn verify(&self, _: &[u8; 145], _: &[u8; 64]) -> bool {
-        self.said()
+        self.printed()
     }
 }
 
 impl IndexScheme for Scheme {
     fn index(&self, _: &[u8], _: &[u8]) -> Option<[u8; 32]> {
-        self.said().then_some([7; 32])
+        self.printed().then_some([7; 32])
     }
 }
 
@@ -391,8 +391,8 @@ fn schemes_are_given_what_is_verified() {
     // The reply's entry is kept, and its signature is not verified once more.
     assert_eq!(client.lookup("alice", &bytes(REPLY), Some(2)).unwrap_err().cause, Cause::VrfProof);
     let [first, second] = entries();
-    let asked = [&b"alice"[..], &bytes(REPLY)[212..292]].concat();
-    assert_eq!(*given.0.lock().expect("no panic"), [first, second, asked]);
+    let requested = [&b"alice"[..], &bytes(REPLY)[212..292]].concat();
+    assert_eq!(*given.0.lock().expect("no panic"), [first, second, requested]);
 }
 
 #[test]
@@ -509,11 +509,12 @@ fn a_missing_epoch_is_lost_at_a_second() {
         assert_eq!(client.lost(), wanted, "{now}");
         assert_eq!(client.missing(), epochs);
     }
-    for (kept, is_digest, wanted) in [("kept forever", false, vec![]), ("kept 0", false, vec![1, 2]), ("kept 0", true, vec![])]
+    for (stored, is_digest, wanted) in
+        [("kept forever", false, vec![]), ("kept 0", false, vec![1, 2]), ("kept 0", true, vec![])]
     {
-        let (client, time) = watching(&[("kept forever", kept)], is_digest, &epochs);
+        let (client, time) = watching(&[("kept forever", stored)], is_digest, &epochs);
         time.set(u64::MAX);
-        assert_eq!(client.lost(), wanted, "{kept}");
+        assert_eq!(client.lost(), wanted, "{stored}");
     }
 }
 
@@ -716,6 +717,13 @@ fn evidence_names_both_entries() {
     let compared = [(3, head.link), (3, [0; 32]), (1, head.link), (4, head.link), (0, head.link)];
     let wanted = [Comparison::Equal, Comparison::Differs, Comparison::Differs, Comparison::Unknown, Comparison::Unknown];
     assert_eq!(compared.map(|(epoch, link)| client.compare(&Head { epoch, link })), wanted);
+}
+
+#[test]
+fn evidence_has_no_time() {
+    let settings = Settings { clock: Box::new(|| panic!("the clock is read")), ..Default::default() };
+    let client = Client::new(keys(), policy(), settings).expect("a client");
+    assert_eq!(client.evidence(&entries()[0]), Ok(None));
 }
 
 #[test]

@@ -31,7 +31,7 @@ func bytes32(word string) (out [32]byte) {
 }
 
 // said is the result of a call, or the number of its error.
-func said(err error, answer string) string {
+func message(err error, answer string) string {
 	if refused, is := err.(coniks.Refused); is {
 		return fmt.Sprintf("refused %d", uint32(refused))
 	}
@@ -46,12 +46,12 @@ func check(words []string) string {
 	if cap(key) != len(key) {
 		return "a key with room behind it"
 	}
-	return said(err, fmt.Sprintf("key %x", key))
+	return message(err, fmt.Sprintf("key %x", key))
 }
 
 func body(entry []byte) string {
 	it, err := coniks.BodyOf(entry)
-	return said(err, fmt.Sprintf("%d %d %d %x %x %x %x %x", it.Version, it.Epoch, it.PreviousEpoch, it.Root, it.PreviousLink,
+	return message(err, fmt.Sprintf("%d %d %d %x %x %x %x %x", it.Version, it.Epoch, it.PreviousEpoch, it.Root, it.PreviousLink,
 		it.Nonce, it.Policy, it.Bytes()))
 }
 
@@ -63,10 +63,10 @@ func answer(word string, words []string) string {
 		auditor.Reset()
 		return fmt.Sprintf("%x", auditor.State())
 	case "feed":
-		return said(auditor.Feed(bytes(words[0]), words[1] == "1"), "follows")
+		return message(auditor.Feed(bytes(words[0]), words[1] == "1"), "follows")
 	case "head":
 		epoch, link, err := auditor.Head()
-		return said(err, fmt.Sprintf("%d %x", epoch, link))
+		return message(err, fmt.Sprintf("%d %x", epoch, link))
 	case "resume":
 		auditor = coniks.Resume(auditor.State())
 		return fmt.Sprintf("%x", auditor.State())
@@ -82,13 +82,13 @@ func answer(word string, words []string) string {
 		if (err == nil) == (seen == 0) {
 			return "an error with a result, or neither"
 		}
-		return said(err, seen.String())
+		return message(err, seen.String())
 	case "convicts":
 		kind, err := coniks.Convicts(bytes(words[0]), bytes(words[1]))
-		return said(err, fmt.Sprint(uint32(kind)))
+		return message(err, fmt.Sprint(uint32(kind)))
 	case "link":
 		link, err := coniks.Link(bytes(words[0]))
-		return said(err, fmt.Sprintf("%x", link))
+		return message(err, fmt.Sprintf("%x", link))
 	case "body":
 		return body(bytes(words[0]))
 	case "text":

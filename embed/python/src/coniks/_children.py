@@ -24,7 +24,7 @@ DIFFER = "two children answer one line differently: the machine or the program i
 _LATEST = b'{"cmd":"latest"}\n'
 # Errors of a program's file. Others are of the machine, such as too many open files.
 _OF_PATHS = (errno.ENOENT, errno.EACCES, errno.ENOEXEC, errno.ENOTDIR, errno.ELOOP, errno.ENAMETOOLONG)
-_NOT_ASKED = "the program isn't asked after an error, or once another one took its place: ask again"
+_NOT_REQUESTED = "the program isn't asked after an error, or once another one took its place: ask again"
 
 
 class Child:
@@ -43,7 +43,7 @@ class Child:
         self._timeout, self.is_sound = timeout, True
         # `asking` is held while the child answers, and `turn` by a line that waits for that, so that no lookup goes before it.
         self.asking, self.turn = threading.Lock(), threading.Lock()
-        self._held, self._at = b"", 0
+        self._retained, self._at = b"", 0
         # Lines of this size in all are written before their answers are read. The pipe has room for them, so that the child
         # and its parent never both wait for the other to read.
         self.at_once = fcntl.fcntl(self._in, _GET_PIPE_SIZE) // 2
@@ -60,7 +60,7 @@ class Child:
     def send(self, lines: Iterable[bytes]) -> None:
         """Writes lines with their newlines. Each gets an answer."""
         if not self.is_sound:
-            raise ProgramFailed(_NOT_ASKED)
+            raise ProgramFailed(_NOT_REQUESTED)
         try:
             self._send(b"".join(lines))
         except BaseException:
@@ -82,10 +82,10 @@ class Child:
                 self.send([lines])
             return self.receive(lines.count(b"\n"), times)
 
-    def read(self, said: bytes) -> Mapping[str, Any]:
+    def read(self, reply: bytes) -> Mapping[str, Any]:
         """What an answer says. After one that isn't defined the program isn't asked again."""
         try:
-            return answer(said)
+            return answer(reply)
         except ProgramFailed:
             self.is_sound = False
             raise
@@ -115,10 +115,10 @@ class Child:
                 raise self._ended() from None
 
     def _receive(self, times: int) -> bytes:
-        end = self._held.find(b"\n", self._at)
+        end = self._retained.find(b"\n", self._at)
         if end < 0:
             until = time.monotonic() + (self._timeout or 0) * times
-            parts = [self._held[self._at :]]
+            parts = [self._retained[self._at :]]
             while end < 0:
                 self._wait(self._can_read, until)
                 parts.append(os.read(self._out, 65536))
@@ -126,8 +126,8 @@ class Child:
                     raise self._ended()
                 end = parts[-1].find(b"\n")
             end += sum(map(len, parts[:-1]))
-            self._held, self._at = b"".join(parts), 0
-        line = self._held[self._at : end]
+            self._retained, self._at = b"".join(parts), 0
+        line = self._retained[self._at : end]
         self._at = end + 1
         return line
 
@@ -207,20 +207,20 @@ class Children:
                 # One that fails here fails again below.
                 with suppress(ProgramFailed):
                     child.send([lines])
-        failure = ProgramFailed(_NOT_ASKED)
-        first, told = list[bytes](), None
+        failure = ProgramFailed(_NOT_REQUESTED)
+        first, reported = list[bytes](), None
         for child in children:
             try:
-                said = child.ask(lines, times, is_sent)
+                reply = child.ask(lines, times, is_sent)
             except ProgramFailed as error:
                 failure = error
                 continue
-            if told is None:
-                first, told = said, child.read(said[0])
-            self._compare(first, said)
-        if told is None:
+            if reported is None:
+                first, reported = reply, child.read(reply[0])
+            self._compare(first, reply)
+        if reported is None:
             raise failure
-        return told
+        return reported
 
     def _compare(self, one: object, other: object) -> None:
         if one != other:
@@ -238,8 +238,8 @@ class Children:
         """What the child that is free answers to a line that changes nothing."""
         with self.lent() as child:
             child.send([line, b"\n"])
-            [said] = child.receive(1)
-            return child.read(said)
+            [reply] = child.receive(1)
+            return child.read(reply)
 
     @contextmanager
     def lent(self) -> Iterator[Child]:
@@ -262,7 +262,7 @@ class Children:
     def _sound(self) -> list[Child]:
         sound = [it for it in self._all if it.is_sound]
         if not sound:
-            raise ProgramFailed(_NOT_ASKED)
+            raise ProgramFailed(_NOT_REQUESTED)
         return sound
 
     def is_usable(self) -> bool:

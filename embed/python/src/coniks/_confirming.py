@@ -14,7 +14,7 @@ from typing import Any, Collection, Mapping
 from . import Body, Head
 from ._http import fetched, has_other_signature, is_signed_again, new_entries
 from ._person import Alarm, Person
-from ._telling import WELL, Told, Unusable, Verdict
+from ._telling import WELL, Notice, Unusable, Verdict
 from .client import Cause, Client, Comparison, Refusal
 from .notes import SKEW, Auditor, BadNote, Note, read_note
 
@@ -66,7 +66,7 @@ class Confirming:
         it, trust = self._person, self._person.trust
         if not trust:
             return Agreement(Verdict.ALONE if it.state["alone"] else Verdict.NOBODY)
-        found, count, needed = self._carried() or self._asked(), len(trust.auditors), trust.needed
+        found, count, needed = self._carried() or self._requested(), len(trust.auditors), trust.needed
         # If the latest entry was signed again meanwhile, heads of its first signature confirm nothing.
         heads = {trust.place(auditor): head for auditor, head in found.items() if it.chain.compare(head) is Comparison.EQUAL}
         is_enough = len(heads) >= needed
@@ -77,7 +77,7 @@ class Confirming:
         values = {"agreeing": len(heads), "confirming": confirming, "count": count, "needed": needed, "agreed": agreed}
         return Agreement(Verdict.CONFIRMED if is_enough else Verdict.FEW, values, heads)
 
-    def _asked(self) -> dict[Auditor, Head]:
+    def _requested(self) -> dict[Auditor, Head]:
         """The heads of which each auditor has cosigned one itself."""
         heads = dict[Auditor, Head]()
         for url, auditor in self._person.auditors.items():
@@ -123,7 +123,7 @@ class Confirming:
             raise Unusable(verdict, auditor=auditor.name, epoch=head.epoch)
         return head
 
-    def _differing(self, auditor: Auditor, note: Note, head: Head, url: str) -> Told:
+    def _differing(self, auditor: Auditor, note: Note, head: Head, url: str) -> Notice:
         """What a head of another chain is, for which no entry convicts the directory."""
         values = {"auditor": auditor.name, "epoch": head.epoch}
         with suppress(Unusable):

@@ -5,6 +5,7 @@ from __future__ import annotations
 
 import ctypes
 from ctypes import POINTER, c_char_p, c_size_t, c_uint8, c_uint32, c_uint64, c_void_p
+from typing import Any, Iterator
 
 from . import ENTRY_LENGTH, _Bytes32, _Exports, _Library
 from ._formats import MAX_SIBLINGS
@@ -13,7 +14,23 @@ from ._formats import MAX_SIBLINGS
 NOWHERE: int = 2 ** (8 * ctypes.sizeof(c_size_t)) - 1
 
 
-class Kept(ctypes.Structure):
+class _Array:
+    """An array as a sequence of its first `count` items."""
+
+    items: Any
+    count: int
+
+    def __len__(self) -> int:
+        return self.count
+
+    def __iter__(self) -> Iterator[Any]:
+        return iter(self.items[: self.count])
+
+    def __getitem__(self, place: int) -> Any:
+        return self.items[range(self.count)[place]]
+
+
+class StoredEntry(ctypes.Structure):
     _fields_ = [("entry", c_uint8 * ENTRY_LENGTH), ("first_seen", c_uint8 * 8), ("seen", c_uint8)]
 
 
@@ -32,17 +49,47 @@ class Watch(ctypes.Structure):
     ]
 
 
-class Present(ctypes.Structure):
+class Clock(ctypes.Structure):
     _fields_ = [
-        *[("has_clock", c_uint32), ("start", c_uint64), ("period", c_uint64), ("max_age", c_uint64), ("skew", c_uint64)],
-        ("time", c_uint64),
+        *[("is_there", c_uint32), ("start", c_uint64), ("period", c_uint64), ("max_age", c_uint64), ("skew", c_uint64)],
     ]
+
+
+class Promise(ctypes.Structure):
+    _fields_ = [("is_limited", c_uint32), ("seconds", c_uint64)]
+
+
+class Rules(ctypes.Structure):
+    _fields_ = [("policy", _Bytes32), ("trust", _Bytes32), ("clock", Clock), ("promise", Promise), ("quorum", c_size_t)]
+
+
+class Stored(_Array, ctypes.Structure):
+    _fields_ = [("items", POINTER(StoredEntry)), ("room", c_size_t), ("count", c_size_t)]
+
+
+class Changes(_Array, ctypes.Structure):
+    _fields_ = [("items", POINTER(Change)), ("room", c_size_t), ("count", c_size_t)]
+
+
+class Alarms(_Array, ctypes.Structure):
+    _fields_ = [("items", POINTER(Alarm)), ("room", c_size_t), ("count", c_size_t)]
+
+
+class Core(ctypes.Structure):
+    _fields_ = [
+        *[("rules", Rules), ("watch", Watch), ("stored", Stored), ("changes", Changes), ("alarms", Alarms)],
+        *[("marks", POINTER(c_uint64)), ("mark_count", c_size_t)],
+    ]
+
+
+class Received(ctypes.Structure):
+    _fields_ = [("entry", c_char_p), ("entry_length", c_size_t), ("signature", c_uint32), ("time", c_uint64)]
 
 
 class Asking(ctypes.Structure):
     _fields_ = [
         *[("name", c_char_p), ("name_length", c_size_t), ("reply", c_char_p), ("reply_length", c_size_t)],
-        *[("is_asked", c_uint32), ("epoch", c_uint64)],
+        *[("is_requested", c_uint32), ("epoch", c_uint64), ("time", c_uint64)],
     ]
 
 
@@ -64,10 +111,6 @@ class Why(ctypes.Structure):
 
 class Head(ctypes.Structure):
     _fields_ = [("is_there", c_uint32), ("epoch", c_uint64), ("link", _Bytes32)]
-
-
-class Promise(ctypes.Structure):
-    _fields_ = [("is_limited", c_uint32), ("seconds", c_uint64)]
 
 
 class Report(ctypes.Structure):
@@ -94,59 +137,42 @@ class Step(ctypes.Structure):
     _fields_ = [("place", c_size_t), ("key", c_void_p), ("key_length", c_size_t), ("shows", c_uint32), ("seen", c_uint32)]
 
 
-class Saved(ctypes.Structure):
-    _fields_ = [
-        *[("kept", POINTER(Kept)), ("count", c_size_t), ("watch", Watch), ("changes", POINTER(Change)), ("change_count", c_size_t)],
-        *[("alarms", POINTER(Alarm)), ("alarm_count", c_size_t), ("trust", _Bytes32)],
-        *[("marks", POINTER(c_uint64)), ("mark_count", c_size_t)],
-    ]
+class Steps(_Array, ctypes.Structure):
+    _fields_ = [("items", POINTER(Step)), ("room", c_size_t), ("count", c_size_t)]
 
 
 class StateNeeds(ctypes.Structure):
     _fields_ = [
-        *[("kept", c_size_t), ("changes", c_size_t), ("alarms", c_size_t), ("entry_start", c_size_t), ("entry_step", c_size_t)]
+        *[("stored", c_size_t), ("changes", c_size_t), ("alarms", c_size_t), ("entry_start", c_size_t), ("entry_step", c_size_t)]
     ]
 
 
-# What several calls take: bytes, an array with its count, and an array with its room and its count, which is written.
-_32, _run, _size, _why, _watch = POINTER(_Bytes32), [c_char_p, c_size_t], POINTER(c_size_t), POINTER(Why), POINTER(Watch)
-_kept, _changes, _alarms = ([POINTER(it), c_size_t] for it in (Kept, Change, Alarm))
-_all_kept, _all_changes, _all_alarms = ([*it, _size] for it in (_kept, _changes, _alarms))
-_marks, _clock = [POINTER(c_uint64), c_size_t], [POINTER(Present), POINTER(Promise)]
-_entry = [*_run, c_uint32, c_uint64, _why]
-_asked, _told = [POINTER(Asking), POINTER(Verdicts)], [POINTER(Found), _why]
-_past = [POINTER(History), POINTER(Verdicts), POINTER(Siblings), POINTER(Step), c_size_t, _size]
+# What several calls take.
+_core, _run, _size, _why = POINTER(Core), [c_char_p, c_size_t], POINTER(c_size_t), POINTER(Why)
+_received, _verdicts, _32 = POINTER(Received), POINTER(Verdicts), POINTER(_Bytes32)
 _exports: _Exports = [
-    ("coniks_core_feed", c_uint32, [_32, *_all_kept, _watch, *_marks, *_entry]),
-    ("coniks_core_reply_needs", c_uint32, [*_kept, *_run, POINTER(Needs)]),
-    ("coniks_core_lookup", c_uint32, [_32, POINTER(Present), *_kept, _watch, *_changes, *_asked, *_told]),
-    ("coniks_core_watch", c_uint32, [*_kept, _watch, *_changes, _watch, c_uint32]),
-    ("coniks_core_expect", c_uint32, [*_kept, _watch, *_all_changes, *_run, c_uint64]),
-    ("coniks_core_compare", c_uint32, [*_kept, c_uint64, _32, _size]),
-    ("coniks_core_evidence", c_uint32, [*_kept, *_run, c_uint32, _why]),
+    ("coniks_core_feed", c_uint32, [_core, _received, _why]),
+    ("coniks_core_reply_needs", c_uint32, [_core, *_run, POINTER(Needs)]),
+    ("coniks_core_lookup", c_uint32, [_core, POINTER(Asking), _verdicts, POINTER(Found), _why]),
+    ("coniks_core_watch", c_uint32, [_core, POINTER(Watch), c_uint32]),
+    ("coniks_core_expect", c_uint32, [_core, *_run, c_uint64]),
+    ("coniks_core_compare", c_uint32, [_core, c_uint64, _32, _size]),
+    ("coniks_core_evidence", c_uint32, [_core, _received, _why]),
     ("coniks_core_quorum", c_size_t, [c_size_t, c_size_t]),
-    ("coniks_core_mark", c_uint32, [*_kept, *_marks, c_size_t, c_uint64, _32]),
-    ("coniks_core_confirmed", c_uint32, [*_marks, c_size_t, POINTER(c_uint64)]),
-    ("coniks_core_relied", c_uint32, [*_kept, c_size_t, *_marks, c_size_t]),
-    ("coniks_core_start", c_uint32, [_32, *_all_kept, _watch, POINTER(Head), c_size_t, c_size_t, *_entry]),
-    (
-        "coniks_core_cover",
-        c_uint32,
-        [*_clock, *_all_kept, *_marks, c_size_t, _watch, *_all_changes, *_all_alarms, POINTER(Covered)],
-    ),
-    ("coniks_core_note", c_uint32, [*_all_alarms, c_uint64]),
-    ("coniks_core_report", c_uint32, [_clock[0], *_kept, _watch, _clock[1], *_alarms, *_marks, c_size_t, POINTER(Report)]),
-    ("coniks_core_lost", c_uint32, [*_clock, *_kept, c_size_t]),
+    ("coniks_core_mark", c_uint32, [_core, c_size_t, c_uint64, _32]),
+    ("coniks_core_confirmed", c_uint32, [_core, POINTER(c_uint64)]),
+    ("coniks_core_relied", c_uint32, [_core, c_size_t]),
+    ("coniks_core_start", c_uint32, [_core, POINTER(Head), c_size_t, _received, _why]),
+    ("coniks_core_cover", c_uint32, [_core, c_uint64, POINTER(Covered)]),
+    ("coniks_core_note", c_uint32, [_core, c_uint64]),
+    ("coniks_core_report", c_uint32, [_core, c_uint64, POINTER(Report)]),
+    ("coniks_core_lost", c_uint32, [_core, c_uint64, c_size_t]),
     ("coniks_core_catch_up", c_uint32, [*_run, _size]),
     ("coniks_core_history_needs", c_uint32, [*_run, POINTER(HistoryNeeds)]),
-    ("coniks_core_history", c_uint32, [*_kept, _watch, *_changes, *_past]),
-    ("coniks_core_state_size", c_uint32, [_32, POINTER(Saved), _size]),
-    ("coniks_core_state_write", c_uint32, [_32, POINTER(Saved), c_void_p, c_size_t, _size]),
-    ("coniks_core_state_needs", c_uint32, [_32, *_run, POINTER(StateNeeds)]),
-    (
-        "coniks_core_state_read",
-        c_uint32,
-        [_32, *_run, POINTER(c_uint32), c_size_t, _32, *_all_kept, _watch, *_all_changes, *_all_alarms, *_marks],
-    ),
+    ("coniks_core_history", c_uint32, [_core, POINTER(History), _verdicts, POINTER(Siblings), POINTER(Steps)]),
+    ("coniks_core_state_size", c_uint32, [_core, _size]),
+    ("coniks_core_state_write", c_uint32, [_core, c_void_p, c_size_t, _size]),
+    ("coniks_core_state_needs", c_uint32, [_core, *_run, POINTER(StateNeeds)]),
+    ("coniks_core_state_read", c_uint32, [_core, *_run, POINTER(c_uint32), c_size_t]),
 ]
 library = _Library(_exports)

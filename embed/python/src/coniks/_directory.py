@@ -166,7 +166,7 @@ class Directory(Closing):
         self._check()
         at = self._at(epoch)
         [answers] = self._host.serve([[lookup_line(name, self._index_of(name), at)]])
-        found = self._told(answers[0])
+        found = self._reported(answers[0])
         if isinstance(found, Fault):
             raise found
         return found
@@ -186,7 +186,7 @@ class Directory(Closing):
                     refused[number] = error
 
         for answers in self._host.serve(grouped(lines(), self._host.group_size)):
-            found += map(self._told, answers)
+            found += map(self._reported, answers)
         for number in sorted(refused):
             found.insert(number, refused[number])
         return found
@@ -210,7 +210,7 @@ class Directory(Closing):
         self._check()
         return _replies.history(self, name, vrf_proof, first, last)
 
-    def _told(self, line: bytes) -> Union[Lookup, Fault]:
+    def _reported(self, line: bytes) -> Union[Lookup, Fault]:
         try:
             return lookup_of(line)
         except Fault as fault:

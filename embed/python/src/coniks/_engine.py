@@ -52,7 +52,7 @@ class Sample:
 
     def __init__(self, size: int = 64):
         self._size, self._count, self._weight = size, 0, 1.0
-        self._kept: list[Place] = []
+        self._stored: list[Place] = []
         self._ends: list[Place] = []
         self._next = size
         self._skip()
@@ -65,9 +65,9 @@ class Sample:
         if not operations:
             return
         self._ends = [*(self._ends or [place_of(operations[0])])[:1], place_of(operations[-1])]
-        self._kept += map(place_of, operations[: self._size - len(self._kept)])
+        self._stored += map(place_of, operations[: self._size - len(self._stored)])
         while self._next < self._count + len(operations):
-            self._kept[random.randrange(self._size)] = place_of(operations[self._next - self._count])
+            self._stored[random.randrange(self._size)] = place_of(operations[self._next - self._count])
             self._next += 1
             self._skip()
         self._count += len(operations)
@@ -76,14 +76,14 @@ class Sample:
         return self._ends[1:]
 
     def all(self) -> list[Place]:
-        return self._ends + self._kept
+        return self._ends + self._stored
 
 
-def asked_of(line: bytes) -> tuple[object, ...]:
+def requested_of(line: bytes) -> tuple[object, ...]:
     """What a `prepare` line asks for."""
-    said = members_of(line, LogFailed, "a `prepare` line")
-    operations = [(it["op"], it["name"], it["index"].lower(), it["key"], it["opening"].lower()) for it in said["ops"]]
-    return said["epoch"], (said.get("nonce") or "").lower(), operations
+    reply = members_of(line, LogFailed, "a `prepare` line")
+    operations = [(it["op"], it["name"], it["index"].lower(), it["key"], it["opening"].lower()) for it in reply["ops"]]
+    return reply["epoch"], (reply.get("nonce") or "").lower(), operations
 
 
 def place_of(operation: Mapping[str, Any]) -> Place:
@@ -157,7 +157,7 @@ class Update(NamedTuple):
 
     def is_of(self, line: bytes) -> bool:
         """Whether a `prepare` line asks for this update: for its epoch, its nonce and its operations, however they are written."""
-        return asked_of(line) == asked_of(self.line)
+        return requested_of(line) == requested_of(self.line)
 
 
 class Record(NamedTuple):
@@ -165,7 +165,7 @@ class Record(NamedTuple):
     it hasn't given."""
 
     signed: Optional[bytes] = None
-    asked: Optional[bytes] = None
+    requested: Optional[bytes] = None
 
 
 class Engine:
@@ -256,51 +256,51 @@ class Engine:
     def take(self, line: bytes) -> None:
         """Replays the next line of the log. The program compares its body, its link and what it abandons."""
         what = f"line {self.position} of the log"
-        said = members_of(line, LogFailed, what)
-        command = said.get("cmd")
+        reply = members_of(line, LogFailed, what)
+        command = reply.get("cmd")
         if command not in _COMMANDS:
             # The program has others, and one of them drops an update.
             raise LogFailed(f"{what} is none of a provider: look what wrote it, and restore the log without it")
         if command == "open":
-            self.compare_opening(said)
+            self.compare_opening(reply)
         try:
-            told = self.ask(line)
+            reported = self.ask(line)
         except NotAbandoned as fault:
             raise LogFailed(f"{what} is refused: {fault}. Look what wrote it, and restore the log without it") from fault
         except Fault as fault:
             raise ReplayDiffers(f"{what} is refused: {fault}. Look whether log and program are this directory's") from fault
         if command == "prepare":
-            self._check_named(said, "body", what)
-            operations = said.get("ops", [])
+            self._check_named(reply, "body", what)
+            operations = reply.get("ops", [])
             names = sum(it.get("op") == "register" for it in operations)
-            pending = self._pending(number(said, "epoch", LogFailed), told)
-            self._prepared(Update(pending, line, names, number(told, "nodes"), operations))
+            pending = self._pending(number(reply, "epoch", LogFailed), reported)
+            self._prepared(Update(pending, line, names, number(reported, "nodes"), operations))
         elif command == "install":
-            self._check_named(said, "link", what)
-            epoch = self._installed(digits(said, "signature", SIGNATURE_LENGTH, LogFailed), told)
+            self._check_named(reply, "link", what)
+            epoch = self._installed(digits(reply, "signature", SIGNATURE_LENGTH, LogFailed), reported)
             self._settle(epoch, self.position + 1)
         self.position += 1
 
-    def _check_named(self, said: Mapping[str, Any], member: str, what: str) -> None:
+    def _check_named(self, reply: Mapping[str, Any], member: str, what: str) -> None:
         """Checks that a line has the member that the program compares with its own: it takes a line without it too."""
-        if member not in said:
+        if member not in reply:
             raise ReplayDiffers(f"{what} has no {member}: look whether log and program are this directory's")
 
-    def compare_opening(self, said: Mapping[str, Any]) -> None:
+    def compare_opening(self, reply: Mapping[str, Any]) -> None:
         """Compares what an `open` line says with what the child was started with."""
-        version = said.get("log")
+        version = reply.get("log")
         if version is not None and (type(version) is not int or version != _FORMAT):
             raise LogFailed("the log has a format that this version doesn't read: use the version that wrote it, or a later one")
         key = self._settings.vrf_public_key
-        digest = None if key is None or "vrf" not in said else sha256(key).digest()
+        digest = None if key is None or "vrf" not in reply else sha256(key).digest()
         for what, member, given in [
             ("policy", "policy", self._settings.digest),
             ("nonce", "nonce", self._settings.nonce),
             ("public key of the VRF", "vrf", digest),
         ]:
-            if given is not None and digits(said, member, 32, LogFailed) != given:
+            if given is not None and digits(reply, member, 32, LogFailed) != given:
                 raise LogFailed(f"the log's directory has another {what}: look whether log and keys belong together")
-        self._opening = {it: said[it] for it in OPENING if it in said}
+        self._opening = {it: reply[it] for it in OPENING if it in reply}
 
     def sample(self, bindings: Sequence[Any]) -> None:
         """Takes some of these for `check_indices`."""
@@ -326,8 +326,8 @@ class Engine:
     def check_same(self, other: Engine) -> None:
         """Raises `SnapshotDiffers` if the children of this engine haven't what those of another one have, which has replayed the same
         lines: what the `open` line said, the latest entry, the names, the pending update, and the proofs of some names."""
-        told = latest_of(self.ask(b'{"cmd":"latest"}'))
-        if self._compared() != other._compared() or told != self.size:
+        reported = latest_of(self.ask(b'{"cmd":"latest"}'))
+        if self._compared() != other._compared() or reported != self.size:
             raise SnapshotDiffers(_SECOND)
         lines = [lookup_line(name, bytes.fromhex(index), self.latest.epoch) for name, index in self._sample.all()]
         if self.children.answers(lines) != other.children.answers(lines):
@@ -337,9 +337,9 @@ class Engine:
         update = self.update and self.update[:4]
         return self._opening, self.position, self.latest, self.size.names, self.replaced, update
 
-    def _pending(self, epoch: int, told: Mapping[str, Any]) -> Pending:
+    def _pending(self, epoch: int, reported: Mapping[str, Any]) -> Pending:
         """The update that the child has prepared. Its body is one of this epoch, after the latest one."""
-        body, root = digits(told, "body", BODY_LENGTH), digits(told, "root", 32)
+        body, root = digits(reported, "body", BODY_LENGTH), digits(reported, "root", 32)
         parts = epoch_of(body), epoch_before(body), root_of(body), link_before(body), policy_of(body)
         if parts != (epoch, self.latest.epoch, root, self.latest.link, self._settings.digest):
             self.children.distrust()
@@ -358,20 +358,20 @@ class Engine:
         caller knows that the signer has abandoned that."""
         if self.update:
             line = with_first(line, "abandons", self.update.pending.body)
-        told = self.ask(line)
+        reported = self.ask(line)
         try:
-            pending = self._pending(epoch, told)
-            stored = self._to_store(told, line, "body", pending.body)
-            return Update(pending, stored, names, number(told, "nodes"))
+            pending = self._pending(epoch, reported)
+            stored = self._to_store(reported, line, "body", pending.body)
+            return Update(pending, stored, names, number(reported, "nodes"))
         except ProgramFailed:
             self.children.distrust()
             raise
 
-    def _to_store(self, told: Mapping[str, Any], line: bytes, member: str, value: bytes) -> bytes:
+    def _to_store(self, reported: Mapping[str, Any], line: bytes, member: str, value: bytes) -> bytes:
         """The line for the log, which the child prints unless the log is of the first format."""
         if "log" not in self._opening:
             return with_first(line, member, value)
-        store = told.get("store")
+        store = reported.get("store")
         if not isinstance(store, bytes) or not store.endswith(line[1:]):
             self.children.distrust()
             raise ProgramFailed("the program printed no line for the log, or another one: use the program of this version")
@@ -393,8 +393,8 @@ class Engine:
             self.ask(_WITHDRAW)
             if self.update:
                 # What that one has replaced isn't pending any more. The child compares its body.
-                said = members_of(self.update.line, LogFailed, "a `prepare` line")
-                self.ask(encoded({it: said[it] for it in said if it != "abandons"}))
+                reply = members_of(self.update.line, LogFailed, "a `prepare` line")
+                self.ask(encoded({it: reply[it] for it in reply if it != "abandons"}))
         except ChildrenDiffer:
             # They note it, and lookups go on.
             pass
@@ -405,12 +405,12 @@ class Engine:
         """Has the child install the pending update. Its epoch is `unlogged` until `log_installed` returns."""
         line = install_line(signature)
         try:
-            told = self.ask(line)
+            reported = self.ask(line)
         except Fault as fault:
             self.children.distrust()
             raise ProgramFailed(f"the program refuses a pending update: {fault}. Retry") from fault
-        epoch = self._installed(signature, told)
-        self.unlogged = self._to_store(told, line, "link", epoch.link), epoch
+        epoch = self._installed(signature, reported)
+        self.unlogged = self._to_store(reported, line, "link", epoch.link), epoch
 
     def log_installed(self) -> Epoch:
         """Appends the line of the epoch that the child has installed, which is the latest then."""
@@ -429,11 +429,11 @@ class Engine:
             raise LogFailed(f"the log can't be written: {cause(error)}. Repair it, then restart") from error
         self.position += 1
 
-    def _installed(self, signature: bytes, told: Mapping[str, Any]) -> Epoch:
+    def _installed(self, signature: bytes, reported: Mapping[str, Any]) -> Epoch:
         """The epoch that the child has installed. Its entry is what was signed, with the signature."""
         pending = self.update.pending if self.update else None
-        root, link, entry = (digits(told, it, size) for it, size in [("root", 32), ("link", 32), ("entry", ENTRY_LENGTH)])
-        epoch = Epoch(number(told, "epoch"), root, link, entry)
+        root, link, entry = (digits(reported, it, size) for it, size in [("root", 32), ("link", 32), ("entry", ENTRY_LENGTH)])
+        epoch = Epoch(number(reported, "epoch"), root, link, entry)
         if not pending or (epoch.epoch, root, entry) != (pending.epoch, pending.root, pending.body + signature):
             self.children.distrust()
             raise ProgramFailed(f"the entry of epoch {epoch.epoch} isn't what was signed: look which program it is")
@@ -456,9 +456,9 @@ class Engine:
             return False
         if other.update is None:
             return True
-        asked = [*self.replaced, *map(body_of, self.chain[count:])]
-        asked += [self.update.pending.body] if self.update else []
-        return other.update.pending.body in asked
+        requested = [*self.replaced, *map(body_of, self.chain[count:])]
+        requested += [self.update.pending.body] if self.update else []
+        return other.update.pending.body in requested
 
     def check_head(self, head: Head) -> None:
         """Raises `LogBehind` or `LogForked` if this link isn't that of the entry of this epoch."""
@@ -477,12 +477,12 @@ class Engine:
         """Raises `LogBehind` or `LogForked` if the log lacks what a signer's record has. A log that has more is no error: the
         record was read first."""
         pending = self.update.pending.body if self.update else b""
-        signed, asked = record
+        signed, requested = record
         if signed and signed != self._entry_at(epoch_of(signed)) and body_of(signed) != pending:
             raise self._not_recorded(signed)
-        if asked and asked not in (*self.replaced, pending, body_of(self._entry_at(epoch_of(asked)))):
+        if requested and requested not in (*self.replaced, pending, body_of(self._entry_at(epoch_of(requested)))):
             raise LogBehind(
-                f"the signer was asked for a body of epoch {epoch_of(asked)} that the log lacks: restore its last lines, "
+                f"the signer was asked for a body of epoch {epoch_of(requested)} that the log lacks: restore its last lines, "
                 "or abandon that body by the signer's guard if they are lost"
             )
 

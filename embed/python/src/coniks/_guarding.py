@@ -27,7 +27,7 @@ class StepRefused(Exception):
         self.refusal = refusal
 
 
-class Said(enum.IntEnum):
+class Reply(enum.IntEnum):
     """What a record says of a body."""
 
     UNSETTLED = 0
@@ -77,15 +77,15 @@ class _Memory:
 
     def __init__(self, record: Record):
         self.room = c_size_t(len(record.abandoned) + 1)
-        self.held = GuardRecord(bool(record.signed), bool(record.asked))
-        self.held.entry[: len(record.signed)] = record.signed
-        self.held.asked[: len(record.asked)] = record.asked
+        self.raw = GuardRecord(bool(record.signed), bool(record.asked))
+        self.raw.entry[: len(record.signed)] = record.signed
+        self.raw.asked[: len(record.asked)] = record.asked
         self.bodies = (_Bytes145 * self.room.value)(*map(_body_of, record.abandoned))
         self.count = c_size_t(len(record.abandoned))
 
     def record(self) -> Record:
-        signed = bytes(self.held.entry) if self.held.has_entry else b""
-        asked = bytes(self.held.asked) if self.held.has_asked else b""
+        signed = bytes(self.raw.entry) if self.raw.has_entry else b""
+        asked = bytes(self.raw.asked) if self.raw.has_asked else b""
         return Record(signed, asked, tuple(bytes(it.bytes) for it in self.bodies[: self.count.value]))
 
 
@@ -111,34 +111,34 @@ class Record:
         signed, asked = (bytes.fromhex(it or "") for it in found.group(1, 2))
         return cls(signed, asked, tuple(bytes.fromhex(it.split()[1]) for it in found[3].splitlines()))
 
-    def answer(self, body: bytes) -> tuple[Said, bytes]:
+    def answer(self, body: bytes) -> tuple[Reply, bytes]:
         """What the record says of a body, and the signature that may be returned, empty if there is none."""
         memory, signature = _Memory(self), Bytes64()
-        said = library.coniks_guard_answer(byref(memory.held), memory.bodies, memory.count, _body_of(body), byref(signature))
-        return Said(said), bytes(signature.bytes) if said == Said.SIGNED else b""
+        reply = library.coniks_guard_answer(byref(memory.raw), memory.bodies, memory.count, _body_of(body), byref(signature))
+        return Reply(reply), bytes(signature.bytes) if reply == Reply.SIGNED else b""
 
     def ask(self, body: bytes, may_begin: bool) -> Record:
         """The record after a body was asked for."""
-        return self._after(lambda it: library.coniks_guard_ask(byref(it.held), it.bodies, it.count, may_begin, _body_of(body)))
+        return self._after(lambda it: library.coniks_guard_ask(byref(it.raw), it.bodies, it.count, may_begin, _body_of(body)))
 
     def sign(self, body: bytes, signature: bytes, replaces: bool) -> Record:
         """The record after the signature of a body was stored, which is verified. If `replaces`, the stored one is not valid."""
         given = Bytes64.from_buffer_copy(signature)
         return self._after(
             lambda it: library.coniks_guard_sign(
-                byref(it.held), it.bodies, it.room, byref(it.count), replaces, _body_of(body), given
+                byref(it.raw), it.bodies, it.room, byref(it.count), replaces, _body_of(body), given
             )
         )
 
     def abandon(self, body: bytes) -> Record:
         """The record after a body was abandoned."""
         return self._after(
-            lambda it: library.coniks_guard_abandon(byref(it.held), it.bodies, it.room, byref(it.count), _body_of(body))
+            lambda it: library.coniks_guard_abandon(byref(it.raw), it.bodies, it.room, byref(it.count), _body_of(body))
         )
 
     def adopt(self, entry: bytes) -> Record:
         """The record after the last entry that was signed without a guard was adopted."""
-        return self._after(lambda it: library.coniks_guard_adopt(byref(it.held), it.bodies, it.count, entry, len(entry)))
+        return self._after(lambda it: library.coniks_guard_adopt(byref(it.raw), it.bodies, it.count, entry, len(entry)))
 
     def _after(self, step: Callable[[_Memory], Any]) -> Record:
         memory = _Memory(self)

@@ -74,7 +74,7 @@ class Host:
         # When the place of a child that ended was last to be filled.
         self._filled = -math.inf
         # Groups of lookups that wait for the thread, each with where its answers go.
-        self._asked: SimpleQueue[Any] = SimpleQueue()
+        self._requested: SimpleQueue[Any] = SimpleQueue()
         self._thread = Worker(self._look_after)
         # Ends the children: an interrupt amid that would leave a lock of `subprocess` behind, for which the next call waits for ever.
         self._ending = Worker()
@@ -101,7 +101,7 @@ class Host:
         waiting: deque[SimpleQueue[Any]] = deque()
         for lines in groups:
             reply: SimpleQueue[Any] = SimpleQueue()
-            self._asked.put((lines, reply))
+            self._requested.put((lines, reply))
             self._thread.begin(self._serve, reply)
             waiting.append(reply)
             if len(waiting) > _AHEAD:
@@ -121,27 +121,27 @@ class Host:
 
     def _serve(self) -> None:
         """Sends the groups that wait, and answers them. Those that a child which ends leaves are sent to another one."""
-        asked = self._taken()
+        requested = self._taken()
         failure: BaseException = ProgramFailed("the program ended while it was asked: ask again, since it is started again")
         for tries in range(1 + self.settings.children):
             try:
-                self._serve_groups(asked, self._revived() if tries else self.known)
+                self._serve_groups(requested, self._revived() if tries else self.known)
             except BaseException as error:
                 failure = error
-            if not asked:
+            if not requested:
                 return
-        while asked:
-            asked.popleft()[1].put((False, failure))
+        while requested:
+            requested.popleft()[1].put((False, failure))
 
-    def _serve_groups(self, asked: deque[Any], engine: Engine) -> None:
+    def _serve_groups(self, requested: deque[Any], engine: Engine) -> None:
         with engine.children.lent() as child:
             if not child.is_sound:
                 return
-            child.send(line for lines, _ in asked for line in lines)
-            while asked:
-                lines, reply = asked[0]
+            child.send(line for lines, _ in requested for line in lines)
+            while requested:
+                lines, reply = requested[0]
                 reply.put((True, child.receive(len(lines))))
-                asked.popleft()
+                requested.popleft()
 
     def _revived(self) -> Engine:
         engine = self.known
@@ -156,7 +156,7 @@ class Host:
         room = self.known.children.at_once
         with suppress(Empty):
             while room > 0:
-                taken.append(self._asked.get_nowait())
+                taken.append(self._requested.get_nowait())
                 room -= sum(map(len, taken[-1][0]))
         return taken
 

@@ -176,8 +176,8 @@ def number(members: Mapping[str, Any], name: str, error: type[ProviderError] = P
 def answer(line: bytes) -> Mapping[str, Any]:
     """What the program printed, if it accepted a line; else raises the fault. Its `store`, if there is one, is bytes."""
     at = line.find(_STORE)
-    said = line if at < 0 else line[:at] + b"}"
-    members: dict[str, Any] = members_of(said, ProgramFailed, "what the program printed")
+    reply = line if at < 0 else line[:at] + b"}"
+    members: dict[str, Any] = members_of(reply, ProgramFailed, "what the program printed")
     if "ok" in members:
         if at >= 0:
             members["store"] = line[at + len(_STORE) : -1]
@@ -206,11 +206,11 @@ def entries_of(lines: Iterable[bytes]) -> Iterator[bytes]:
     """The entries of the epochs that are installed by these lines."""
     body = b""
     for line in lines:
-        said = members_of(line, LogFailed, "a line of the log")
-        if said.get("cmd") == "prepare":
-            body = digits(said, "body", BODY_LENGTH, LogFailed)
-        elif said.get("cmd") == "install":
-            yield body + digits(said, "signature", SIGNATURE_LENGTH, LogFailed)
+        reply = members_of(line, LogFailed, "a line of the log")
+        if reply.get("cmd") == "prepare":
+            body = digits(reply, "body", BODY_LENGTH, LogFailed)
+        elif reply.get("cmd") == "install":
+            yield body + digits(reply, "signature", SIGNATURE_LENGTH, LogFailed)
 
 
 def grouped(lines: Iterable[bytes], size: int) -> Iterator[list[bytes]]:

@@ -57,7 +57,7 @@ class Own:
 
     @property
     def unverified(self) -> list[int]:
-        """The epochs that can no longer be verified: those that were dropped, and kept ones."""
+        """The epochs that can no longer be verified: those that were dropped, and stored ones."""
         return [it.epoch for it in self.client.alarms if it.seen is Watched.MISSING] + self.client.lost
 
     @property
@@ -140,8 +140,8 @@ class OwnNames:
         if past is None:
             return Own(person.opened(person.chain.state.hex()), SigningKey.generate())
         own = Own.read(person, name, past)
-        head, kept = own.client.head(), person.chain.entries[:1]
-        is_behind = head and kept and head.epoch < Body.of_entry(kept[0]).epoch
+        head, stored = own.client.head(), person.chain.entries[:1]
+        is_behind = head and stored and head.epoch < Body.of_entry(stored[0]).epoch
         return self._anew(name, own) if is_behind else own
 
     def _anew(self, name: str, own: Own) -> Own:
@@ -253,8 +253,8 @@ class OwnNames:
         if right:
             epochs = [it for them in right.values() for it in them]
             keys = [(key, epochs, agreement.verdict) for key, epochs in right.items()]
-            told: dict[str, Any] = {"keys": keys, "key": list(right)[-1], "report": own.client.report().what.value}
-            person.tell(Verdict.OWN_SHOWN, name=name, epochs=epochs, **told)
+            reported: dict[str, Any] = {"keys": keys, "key": list(right)[-1], "report": own.client.report().what.value}
+            person.tell(Verdict.OWN_SHOWN, name=name, epochs=epochs, **reported)
 
     def _tell_alarms(self, name: str, own: Own, but: Sequence[int]) -> None:
         """Reports the epochs that were alarms in earlier runs, until their owner takes note of them."""

@@ -11,7 +11,7 @@ from urllib.parse import quote
 from . import Policy
 from ._client_state import StateFile
 from ._http import Answer, answered, check_time, check_token, new_entries
-from ._telling import Telling, Told, Unusable, Verdict
+from ._telling import Notice, Telling, Unusable, Verdict
 from .client import Client, Found, Refusal
 from .notes import Auditor, BadNote
 from .trust import Trust
@@ -23,7 +23,7 @@ _WHO = (401, 403)
 REPLY, TRIES = 1 << 15, 5
 
 
-class Alarm(Told):
+class Alarm(Notice):
     """Something that the user must see, with what is kept of it: its kind and its parts."""
 
     def __init__(self, verdict: Verdict, kind: str, *parts: bytes, **values: Any):
@@ -81,7 +81,7 @@ class Person:
                 self.keep("entries", error.evidence.mine, error.evidence.other, why=error.evidence.kind.name.lower())
             verdict = Verdict.CONVICTED if error.evidence else Verdict.REFUSED
             self.tell(verdict, is_beside, reason=error, cause=error.cause.name)
-        except Told as error:
+        except Notice as error:
             if isinstance(error, Alarm):
                 self.keep(error.kind, *error.parts)
             self.tell(error.verdict, is_beside, **error.values)

@@ -39,7 +39,7 @@ def proofs(directory: Directory, name: str, epochs: Sequence[int]) -> Iterator[t
     index = directory._index_of(name)
     lines = grouped((lookup_line(name, index, it) for it in epochs), directory._host.group_size)
     for answers in directory._host.serve(lines):
-        for found in map(directory._told, answers):
+        for found in map(directory._reported, answers):
             if isinstance(found, Fault):
                 raise found
             yield found.epoch, proof_bytes(found.proof)

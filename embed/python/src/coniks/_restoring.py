@@ -64,76 +64,76 @@ class Restoring:
             raise self._refused(f"has a line that can't be read: {error}") from None
 
     def _take(self, line: bytes) -> None:
-        said = members_of(line, _Wrong, "it")
-        kind = said["cmd"] if "cmd" in said else next((it for it in _PARTS if it in said), None)
-        if not isinstance(kind, str) or kind not in _AFTER[self._last] or ("cmd" in said and kind in _PARTS):
+        reply = members_of(line, _Wrong, "it")
+        kind = reply["cmd"] if "cmd" in reply else next((it for it in _PARTS if it in reply), None)
+        if not isinstance(kind, str) or kind not in _AFTER[self._last] or ("cmd" in reply and kind in _PARTS):
             raise self._refused("has a line that doesn't follow the one before it")
         take = {"snapshot": self._begin, "entries": self._add_entries, "replaced": self._add_replaced}.get(kind)
         if take:
-            take(said)
+            take(reply)
         else:
-            self._ask(kind, line, said)
+            self._ask(kind, line, reply)
         self._last = kind
 
     def _refused(self, what: str) -> SnapshotDiffers:
         return refused(self._engine.log, what)
 
-    def _begin(self, said: Mapping[str, Any]) -> None:
-        self._header = said
-        if type(said["snapshot"]) is not int or said["snapshot"] != FORMAT:
+    def _begin(self, reply: Mapping[str, Any]) -> None:
+        self._header = reply
+        if type(reply["snapshot"]) is not int or reply["snapshot"] != FORMAT:
             raise SnapshotDiffers(
                 f"the snapshot of {self._engine.log} has a format that this version doesn't read: "
                 "use the version that wrote it, or a later one"
             )
-        position, self._epochs, self._names = (number(said, it, _Wrong) for it in ("position", "epochs", "names"))
+        position, self._epochs, self._names = (number(reply, it, _Wrong) for it in ("position", "epochs", "names"))
         if position != self._position:
             raise self._refused("has another position than the log says")
-        self._policy = digits(said, "policy", 32, _Wrong)
-        self._engine.compare_opening({it: said[it] for it in OPENING if it in said})
+        self._policy = digits(reply, "policy", 32, _Wrong)
+        self._engine.compare_opening({it: reply[it] for it in OPENING if it in reply})
 
-    def _add_entries(self, said: Mapping[str, Any]) -> None:
-        for entry in self._listed(said, "entries", ENTRY_LENGTH):
+    def _add_entries(self, reply: Mapping[str, Any]) -> None:
+        for entry in self._listed(reply, "entries", ENTRY_LENGTH):
             before = self._chain[-1] if self._chain else None
             if not is_next(entry, before) or policy_of(entry) != self._policy:
                 raise self._refused(f"has an entry that doesn't follow the one before it, number {len(self._chain)}")
             self._chain.append(entry)
 
-    def _add_replaced(self, said: Mapping[str, Any]) -> None:
-        self._replaced += self._listed(said, "replaced", BODY_LENGTH)
+    def _add_replaced(self, reply: Mapping[str, Any]) -> None:
+        self._replaced += self._listed(reply, "replaced", BODY_LENGTH)
 
-    def _listed(self, said: Mapping[str, Any], member: str, size: int) -> list[bytes]:
+    def _listed(self, reply: Mapping[str, Any], member: str, size: int) -> list[bytes]:
         """The values of a member that is a list of digits."""
-        found = said[member]
+        found = reply[member]
         if not isinstance(found, list) or not 1 <= len(found) <= GROUP:
             raise self._refused(f"has a line whose member {member} is no list of 1 to {GROUP}")
         return [digits({member: it}, member, size, _Wrong) for it in found]
 
-    def _ask(self, kind: str, line: bytes, said: Mapping[str, Any]) -> None:
+    def _ask(self, kind: str, line: bytes, reply: Mapping[str, Any]) -> None:
         """Has the child take a line that is one of its own."""
         if kind == "restore":
-            self._check_entry(said)
+            self._check_entry(reply)
             # The rules of the log hold for the lines after it.
-            line = encoded({**said, "log": self._header["log"]}) if "log" in self._header else line
+            line = encoded({**reply, "log": self._header["log"]}) if "log" in self._header else line
         try:
             # The tree is built for all names at once.
-            told = self._engine.ask(line, 1 + self._counted // _BATCH if kind == "restored" else 1)
+            reported = self._engine.ask(line, 1 + self._counted // _BATCH if kind == "restored" else 1)
         except Command as fault:
             raise ProgramFailed("the program knows no snapshots: use the one of this version") from fault
         except Fault as fault:
             raise self._refused(f"has a line that the program refuses, {kind}: {fault}") from fault
         if kind == "restoring":
-            bindings = said["bindings"]
+            bindings = reply["bindings"]
             self._counted += len(bindings)
             self._engine.sample(bindings)
-            if number(told, "names") != self._counted:
+            if number(reported, "names") != self._counted:
                 raise ProgramFailed("the program counts other names than it was given: look which program it is")
         elif kind == "restored":
-            self._finish(said, told)
+            self._finish(reply, reported)
 
-    def _check_entry(self, said: Mapping[str, Any]) -> None:
+    def _check_entry(self, reply: Mapping[str, Any]) -> None:
         """Checks the entry to restore, the position after it, and its signature."""
         entry, verify = self._chain[-1], self._engine.verify
-        if len(self._chain) != self._epochs or not has_digits(said, "entry", entry):
+        if len(self._chain) != self._epochs or not has_digits(reply, "entry", entry):
             raise self._refused("doesn't restore its last entry, or has another number of entries than its header")
         # The lines below are `open`, a `prepare` for each entry and each replaced body, and an `install` for each entry.
         if self._position != 1 + 2 * len(self._chain) + len(self._replaced):
@@ -147,12 +147,12 @@ class Restoring:
         if is_valid is not True:
             raise self._refused("has an entry whose signature isn't valid")
 
-    def _finish(self, said: Mapping[str, Any], told: Mapping[str, Any]) -> None:
-        root, link, entry = (digits(told, it, size) for it, size in [("root", 32), ("link", 32), ("entry", ENTRY_LENGTH)])
-        epoch = Epoch(number(told, "epoch"), root, link, entry)
+    def _finish(self, reply: Mapping[str, Any], reported: Mapping[str, Any]) -> None:
+        root, link, entry = (digits(reported, it, size) for it, size in [("root", 32), ("link", 32), ("entry", ENTRY_LENGTH)])
+        epoch = Epoch(number(reported, "epoch"), root, link, entry)
         if entry != self._chain[-1] or link != link_of(entry):
             raise ProgramFailed("the program has restored another entry than it was given: look which program it is")
-        if not has_digits(said, "link", link) or self._counted != self._names:
+        if not has_digits(reply, "link", link) or self._counted != self._names:
             raise self._refused("has another link, or another number of names than its header")
         size = latest_of(self._engine.ask(b'{"cmd":"latest"}'))
         if (size.epoch, size.link, size.names) != (epoch.epoch, link, self._names):

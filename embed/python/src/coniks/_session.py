@@ -28,7 +28,7 @@ _LOOK_SECONDS = 0.1
 # How many seconds a host may take to open a session, if the connection string doesn't say so.
 _REACH_SECONDS = 5
 # How many sessions a pool keeps.
-_KEPT = 4
+_STORED = 4
 
 # How those errors of libpq begin that show no option but host, port, user and database: of libpq 14 and later, and of older ones.
 _HARMLESS = ("connection to server", "could not translate host name", "could not connect to server", "FATAL")
@@ -59,9 +59,9 @@ def reason(error: psycopg.Error) -> str:
     and so may the texts of data errors and of functions. Errors of libpq may show the value of an option."""
     state = error.sqlstate
     if state:
-        said = None if state[:2] in ("22", "P0") else error.diag.message_primary
+        reply = None if state[:2] in ("22", "P0") else error.diag.message_primary
         advice = next((it for of, it in _ADVICE.items() if state.startswith(of)), "the server's log has more")
-        return f"{said or type(error).__name__} ({state}): {advice}"
+        return f"{reply or type(error).__name__} ({state}): {advice}"
     text = str(error)
     if error.pgconn:
         text = error.pgconn.error_message.decode("utf-8", "replace")
@@ -70,7 +70,7 @@ def reason(error: psycopg.Error) -> str:
     return " ".join(text.split())
 
 
-def _told(error: psycopg.Error, is_begun: bool, is_idle: bool) -> tuple[str, str, bool, bool]:
+def _reported(error: psycopg.Error, is_begun: bool, is_idle: bool) -> tuple[str, str, bool, bool]:
     """Returns the parts of a `Failure`, by whether the call was begun and whether its transaction is over."""
     state = error.sqlstate or ""
     is_refused = bool(state) and is_idle and not state.startswith(_UNSURE)
@@ -102,9 +102,9 @@ def _ready(socket: int, wants: Wait, until: float, life: _Life) -> Optional[Read
     raise life.over()
 
 
-def _kept(steps: Generator[Wanted, Ready, Answer], kept: list[Answer]) -> Generator[Wanted, Ready, None]:
+def _stored(steps: Generator[Wanted, Ready, Answer], stored: list[Answer]) -> Generator[Wanted, Ready, None]:
     """Keeps what a generator returns. Otherwise the exception at its end has it, which may refer to itself by its traceback."""
-    kept.append((yield from steps))
+    stored.append((yield from steps))
 
 
 class Session(psycopg.Connection[Any]):
@@ -121,7 +121,7 @@ class Session(psycopg.Connection[Any]):
         """Runs a query. After an interrupt psycopg's own method cancels it in the server, and a commit that waits for a standby then
         returns as if the standby had it. This one leaves the query alone."""
         answer: list[RV] = []
-        steps = _kept(gen, answer)
+        steps = _stored(gen, answer)
         try:
             wants = next(steps)
             while True:
@@ -145,7 +145,7 @@ def _note(warned: list[Optional[str]], notice: psycopg.errors.Diagnostic) -> Non
 def _opened(conninfo: str, until: float, life: _Life) -> Session:
     """Opens a session. psycopg limits each step of that, and this all of them together."""
     opened: list[Any] = []
-    steps = _kept(generators.connect(conninfo), opened)
+    steps = _stored(generators.connect(conninfo), opened)
     try:
         socket, wants = next(steps)
         while True:
@@ -215,7 +215,7 @@ class Pool:
         if self._life.is_closed:
             raise self._life.over()
         session, is_begun = self._taken(until), False
-        told: Optional[tuple[str, str, bool, bool]] = None
+        reported: Optional[tuple[str, str, bool, bool]] = None
         try:
             if not session.is_checked:
                 self._check(session)
@@ -224,15 +224,15 @@ class Pool:
             answer = call(session, *arguments)
         except BaseException as error:
             if isinstance(error, psycopg.Error):
-                told = _told(error, is_begun, session.pgconn.transaction_status == TransactionStatus.IDLE)
+                reported = _reported(error, is_begun, session.pgconn.transaction_status == TransactionStatus.IDLE)
             session.close()
-            if not told:
+            if not reported:
                 raise
         # Not above, where the error of psycopg would be its context, which may show a row.
-        if told:
-            raise Failure(*told)
+        if reported:
+            raise Failure(*reported)
         self._sessions.append(session)
-        self.shrink(0 if self._life.is_closed else _KEPT)
+        self.shrink(0 if self._life.is_closed else _STORED)
         return answer
 
     def _taken(self, until: float) -> Session:

@@ -44,8 +44,8 @@ def refused(place: object, what: str) -> SnapshotDiffers:
 def position_of(header: bytes, place: object) -> int:
     """The position that a header has."""
     try:
-        said = json.loads(header.decode())
-        position = said["position"] if said["snapshot"] is not None else None
+        reply = json.loads(header.decode())
+        position = reply["position"] if reply["snapshot"] is not None else None
     except (KeyError, TypeError, ValueError, RecursionError):
         position = None
     if type(position) is not int or position < 1:
@@ -65,10 +65,10 @@ def entries_in(log: Log) -> Iterator[bytes]:
     if found:
         position, lines = found
         for line in lines:
-            said = members_of(line, LogFailed, f"a line of the snapshot of {log}")
-            if said.get("cmd"):
+            reply = members_of(line, LogFailed, f"a line of the snapshot of {log}")
+            if reply.get("cmd"):
                 break
-            listed = said.get("entries")
+            listed = reply.get("entries")
             for entry in listed if isinstance(listed, list) else ():
                 yield digits({"entries": entry}, "entries", ENTRY_LENGTH, LogFailed)
     yield from entries_of(log.read(position))
@@ -101,9 +101,9 @@ def pages(ask: Callable[[bytes], Mapping[str, Any]], epoch: int) -> Iterator[byt
     """The `restoring` lines of an epoch's bindings."""
     after, most, has_more = dict[str, str](), 256, True
     while has_more:
-        told = ask(encoded({"cmd": "bindings", "epoch": epoch, **after, "most": most}))
-        bindings, has_more = told.get("bindings"), told.get("more") is True
-        if not isinstance(bindings, list) or number(told, "epoch") != epoch or (has_more and not bindings):
+        reported = ask(encoded({"cmd": "bindings", "epoch": epoch, **after, "most": most}))
+        bindings, has_more = reported.get("bindings"), reported.get("more") is True
+        if not isinstance(bindings, list) or number(reported, "epoch") != epoch or (has_more and not bindings):
             raise ProgramFailed("the program printed no page of bindings: look which program it is")
         if bindings:
             line = encoded({"cmd": "restoring", "bindings": bindings})

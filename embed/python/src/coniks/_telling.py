@@ -168,7 +168,7 @@ class Verdict(enum.Enum):
         return printable(_Sentences().vformat(self.text, (), values))
 
 
-class Told(Exception):
+class Notice(Exception):
     """What ends a call, as a verdict with its values."""
 
     def __init__(self, verdict: Verdict, **values: Any):
@@ -176,7 +176,7 @@ class Told(Exception):
         super().__init__(verdict.sentence(values))
 
 
-class Unusable(Told):
+class Unusable(Notice):
     """A service, an auditor or a file can't be used now."""
 
 

@@ -47,10 +47,14 @@ class Verifier:
         has_parts = len(entry) == ENTRY_LENGTH
         return has_parts and self._signatures.verify(body_of(entry), signature_of(entry)) is True
 
+    def of_received(self, entry: bytes) -> _core.Received:
+        """Verifies the signature of an entry that the client received. Its time is left out."""
+        return _core.Received(entry, len(entry), self.of_entry(entry))
+
     def of_state(self, state: bytes, needs: _core.StateNeeds) -> Any:
         """Verifies the signature of each entry of a state."""
-        starts = (needs.entry_start + it * needs.entry_step for it in range(needs.kept))
-        return (ctypes.c_uint32 * needs.kept)(*(self.of_entry(part(state, it, ENTRY_LENGTH)) for it in starts))
+        starts = (needs.entry_start + it * needs.entry_step for it in range(needs.stored))
+        return (ctypes.c_uint32 * needs.stored)(*(self.of_entry(part(state, it, ENTRY_LENGTH)) for it in starts))
 
     def of_reply(self, name: bytes, reply: bytes, needs: _core.Needs) -> _core.Verdicts:
         """Verifies the signature of a reply's entry if it is needed, and the VRF proof."""

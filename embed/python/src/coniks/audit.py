@@ -33,7 +33,7 @@ from nacl.signing import SigningKey
 from . import ENTRY_LENGTH, Policy, __version__, link
 from ._files import lock, rewrite
 from ._http import PAGE, check_time, fetched, has_other_signature, is_signed_again, new_entries
-from ._telling import WELL, Told, Unusable, Verdict, event_of, worst
+from ._telling import WELL, Notice, Unusable, Verdict, event_of, worst
 from .client import Cause, Client, Comparison, Refusal, entries_of
 from .notes import Auditor, BadNote, Note, cosign, read_note, text_of
 
@@ -47,7 +47,7 @@ _FILES = {Verdict.AUDIT_ALARM: "alarm", Verdict.AUDIT_PEER_ALARM: "alarm.peer"}
 _HARMLESS = (Cause.SIGNATURE, Cause.ENTRY_LENGTH, Cause.CATCH_UP_LENGTH, Cause.PREVIOUS_EPOCH)
 
 
-class Alarm(Told):
+class Alarm(Notice):
     """What an auditor must tell. `members` are those of the file: `evidence` has the two entries that convict the directory, or the
     one that doesn't follow. `note` is that of another auditor which its entries don't have: that one lied, not the directory."""
 
@@ -79,8 +79,8 @@ class Shelf:
                 low, high = (middle + 1, high) if is_before else (low, middle)
             # One entry more than a page shows whether the last one was signed again.
             page = entries_of(os.pread(file.fileno(), min(PAGE + ENTRY_LENGTH, end - low * ENTRY_LENGTH), low * ENTRY_LENGTH))
-            kept = zip(page[: PAGE // ENTRY_LENGTH], [*page[1:], b""])
-            return b"".join(it for it, after in kept if not is_signed_again(after, it))
+            saved = zip(page[: PAGE // ENTRY_LENGTH], [*page[1:], b""])
+            return b"".join(it for it, after in saved if not is_signed_again(after, it))
         return b""
 
     def page(self, target: str) -> Optional[bytes]:
@@ -204,10 +204,10 @@ class Audit:
         for step in [partial(self.follow, service), *(partial(self.compare, *it) for it in peers)]:
             try:
                 step()
-            except Told as told:
-                verdicts.append(tell(told.verdict, **told.values))
-                if isinstance(told, Alarm):
-                    self._store(told)
+            except Notice as reported:
+                verdicts.append(tell(reported.verdict, **reported.values))
+                if isinstance(reported, Alarm):
+                    self._store(reported)
         self.sign()
         rewrite(self._folder / "metrics", self.metrics())
         if self.behind() >= _LATE:

@@ -1,4 +1,4 @@
-"""A client of a key directory that can't forget a step: it verifies signatures, the chain, VRF proofs, paths and the asked epoch.
+"""A client of a key directory that can't forget a step: it verifies signatures, the chain, VRF proofs, paths and the requested epoch.
 
     client = Client(signing_key, vrf_key, policy)           # the three that the directory publishes
     client.feed(catch_up)                                   # all entries since the last one, or a list of them
@@ -189,12 +189,9 @@ class Client:
         self._verifier = Verifier(signing_key, vrf_key)
         check_keys(policy, signing_key, vrf_key)
         self._policy = policy if isinstance(policy, Policy) else None
-        self._digest = digest(policy)
-        self._limits, self._promise = limits(self._policy, max_age, skew), promise(self._policy)
         self._clock, self._trust = clock, trust
-        self._trust_digest, self._quorum = trusted(trust)
-        auditors = trust.auditors if trust else 0
-        self._memory = Memory(auditors) if state is None else self._read(_bytes(state, "the state"), auditors)
+        rules, auditors = rules_of(policy, max_age, skew, trust), trust.auditors if trust else 0
+        self._memory = Memory(rules, auditors) if state is None else self._read(_bytes(state, "the state"), rules, auditors)
 
     @classmethod
     def vouched(
@@ -232,21 +229,20 @@ class Client:
         return [self._fed(_bytes(it, "an entry")) for it in entries]
 
     def _fed(self, entry: bytes) -> Step:
-        is_signed, now, why, memory = self._verifier.of_entry(entry), self._second(), _core.Why(), self._memory
-        memory.kept.reserve(1)
-        status = library.coniks_core_feed(
-            self._digest, *memory.kept.all, memory.watch, *memory.marks, entry, len(entry), is_signed, now, why
-        )
-        self._check(status, why, entry)
-        return Step(memory.epoch(-1), _WATCHED[memory.kept[-1].seen])
+        received, why = self._verifier.of_received(entry), _core.Why()
+        received.time = self._second()
+        self._memory = memory = self._memory.with_room(stored=1)
+        self._check(library.coniks_core_feed(memory, received, why), why, entry)
+        return Step(memory.epoch(-1), _WATCHED[memory.stored[-1].seen])
 
     def _start(self, entry: bytes, rows: Any, least: int) -> None:
-        """Begins with an entry that auditors have, whose heads these are."""
-        is_signed, now, why, memory = self._verifier.of_entry(entry), self._second(), _core.Why(), self._memory
-        memory.kept.reserve(1)
-        status = library.coniks_core_start(
-            self._digest, *memory.kept.all, memory.watch, rows, len(rows), least, entry, len(entry), is_signed, now, why
-        )
+        """Begins with an entry that auditors have, whose heads these are. For this call `least` of them are the quorum."""
+        received, why = self._verifier.of_received(entry), _core.Why()
+        received.time = self._second()
+        self._memory = memory = self._memory.with_room(stored=1)
+        quorum, memory.rules.quorum = memory.rules.quorum, least
+        status = library.coniks_core_start(memory, rows, len(rows), received, why)
+        memory.rules.quorum = quorum
         self._check(status, why, entry)
 
     def _check(self, status: int, why: _core.Why, entry: bytes) -> None:
@@ -262,18 +258,18 @@ class Client:
 
     @property
     def entries(self) -> list[bytes]:
-        """The entries that are kept, in the order of the chain."""
+        """The entries that are stored, in the order of the chain."""
         return self._memory.column(0, ENTRY_LENGTH)
 
     def head(self) -> Optional[Head]:
         """The head of the latest entry, None before the first."""
         memory = self._memory
-        return Head(memory.epoch(-1), link(memory.entry(-1))) if len(memory.kept) else None
+        return Head(memory.epoch(-1), link(memory.entry(-1))) if len(memory.stored) else None
 
     def compare(self, head: Head) -> Comparison:
         """Returns whether a head is one of the chain, as far as its entries are kept."""
         epoch, of_head = parts_of(head)
-        return _COMPARED[library.coniks_core_compare(*self._memory.kept.present, epoch, of_head, ctypes.c_size_t())]
+        return _COMPARED[library.coniks_core_compare(self._memory, epoch, of_head, ctypes.c_size_t())]
 
     def cover(self, head: Head) -> Comparison:
         """Drops the entries before that of an auditor's head, if it is one of this chain: the auditor's chain has them. Epochs
@@ -281,14 +277,20 @@ class Client:
         since one auditor confirms nothing: call `mark` and `drop`."""
         found = self.compare(head)
         if found is Comparison.EQUAL and not self._trust:
-            self._drop((ctypes.c_uint64 * 1)(head.epoch), 1, 1)
+            now, memory = self._second(), self._memory
+            # An interrupt before the last step leaves what there was.
+            copy = memory.copied(alarms=len(memory.alarms) + len(memory.stored))
+            copy.set_marks([head.epoch], 1)
+            dropped(copy, now)
+            copy.set_marks([], 0)
+            self._memory = copy
         return found
 
     def evidence(self, other_entry: bytes) -> Optional[Evidence]:
         """Returns what convicts the provider together with another one's entry, or None. Raises `Refusal` if that isn't signed."""
         entry, why = _bytes(other_entry, "an entry"), _core.Why()
-        is_signed = self._verifier.of_entry(entry)
-        status = library.coniks_core_evidence(*self._memory.kept.present, entry, len(entry), is_signed, why)
+        received = self._verifier.of_received(entry)
+        status = library.coniks_core_evidence(self._memory, received, why)
         if status == NO_EVIDENCE:
             alone = convicts(entry, entry)
             return Evidence(entry, entry, alone) if alone else None
@@ -300,8 +302,8 @@ class Client:
     def mark(self, auditor: int, head: Head) -> Comparison:
         """Compares a head that an auditor cosigned, as `compare` does, and remembers its epoch if they are equal. The auditor is the one
         at this place of the trust document. Verify the cosignature first. Raises ValueError if there is no such auditor."""
-        place, memory = _number(auditor, 32, "the place of an auditor"), self._memory
-        found = library.coniks_core_mark(*memory.kept.present, *memory.marks, place, *parts_of(head))
+        place = _number(auditor, 32, "the place of an auditor")
+        found = library.coniks_core_mark(self._memory, place, *parts_of(head))
         if found not in _COMPARED:
             check(found)
         return _COMPARED[found]
@@ -310,13 +312,12 @@ class Client:
     def confirmed(self) -> Optional[int]:
         """The latest epoch that a quorum of the auditors confirms, None if there is none."""
         epoch = ctypes.c_uint64()
-        status = library.coniks_core_confirmed(*self._memory.marks, self._quorum, epoch)
+        status = library.coniks_core_confirmed(self._memory, epoch)
         return None if status == Misuse.NOT_CONFIRMED else epoch.value
 
     def is_relied(self, found: Found) -> bool:
         """Returns whether a quorum of the auditors confirms the epoch of what was found. Raises `Refusal` if it is not kept any more."""
-        memory = self._memory
-        status = library.coniks_core_relied(*memory.kept.present, memory.place(found.epoch), *memory.marks, self._quorum)
+        status = library.coniks_core_relied(self._memory, self._memory.place(found.epoch))
         if status != Misuse.NOT_CONFIRMED:
             check(status)
         return bool(status == 0)
@@ -325,48 +326,39 @@ class Client:
         """Drops the first epochs: those before the confirmed one, and before the first missing one that is not lost. Returns them. Each
         watched one that was not seen as the same leaves an alarm. No reply for a dropped epoch is accepted: ask for missing ones first.
         """
-        return self._drop(*self._memory.marks, self._quorum)
-
-    def _drop(self, marks: Any, auditors: int, quorum: int) -> list[int]:
-        memory, covered, present = self._memory, _core.Covered(), self._present(self._now())
-        epochs = memory.epochs()
-        memory.alarms.reserve(len(memory.kept))
-        status = library.coniks_core_cover(
-            present, self._promise, *memory.kept.all, marks, auditors, quorum, memory.watch, *memory.changes.all,
-            *memory.alarms.all, covered,
-        )  # fmt: skip
-        check(status)
-        return epochs[: covered.epochs]
+        now = self._second()
+        self._memory = self._memory.with_room(alarms=len(self._memory.stored))
+        return dropped(self._memory, now)
 
     # Lookups.
 
     def lookup(self, name: Name, reply: bytes, epoch: Optional[int] = None) -> Found:
-        """Returns what a reply shows of a name, at the epoch that was asked for, or at the latest one. Raises `Refusal`."""
-        asked, reply, needs, memory = _name(name), _bytes(reply, "a reply"), _core.Needs(), self._memory
+        """Returns what a reply shows of a name, at the epoch that was requested, or at the latest one. Raises `Refusal`."""
+        requested, reply, needs = _name(name), _bytes(reply, "a reply"), _core.Needs()
         number = 0 if epoch is None else _number(epoch, 64, "the epoch")
-        check(library.coniks_core_reply_needs(*memory.kept.present, reply, len(reply), needs))
+        check(library.coniks_core_reply_needs(self._memory, reply, len(reply), needs))
         now, found, why = self._now(), _core.Found(), _core.Why()
-        verdicts = self._verifier.of_reply(asked, reply, needs)
-        asking = _core.Asking(asked, len(asked), reply, len(reply), epoch is not None, number)
-        status = library.coniks_core_lookup(self._digest, self._present(now), *memory.watched, asking, verdicts, found, why)
+        verdicts = self._verifier.of_reply(requested, reply, needs)
+        asking = _core.Asking(requested, len(requested), reply, len(reply), epoch is not None, number, math.floor(now))
+        status = library.coniks_core_lookup(self._memory, asking, verdicts, found, why)
         self._check(status, why, part(reply, needs.entry_start, ENTRY_LENGTH))
-        return self._told(found, part(reply, found.key_start, found.key_length), now)
+        return self._reported(found, part(reply, found.key_start, found.key_length), now)
 
     def history(self, name: Name, history: bytes) -> list[Found]:
         """Returns what a history shows of a name, one for each of its epochs. Raises `Refusal`, and then keeps nothing of it."""
-        asked, history, needs, memory = _name(name), _bytes(history, "a history"), _core.HistoryNeeds(), self._memory
+        requested, history, needs = _name(name), _bytes(history, "a history"), _core.HistoryNeeds()
         check(library.coniks_core_history_needs(history, len(history), needs))
-        now, count, asking = self._now(), ctypes.c_size_t(), _core.History(asked, len(asked), history, len(history))
-        verdicts = self._verifier.of_history(asked, history, needs)
-        steps = (_core.Step * (len(memory.kept) + 1))()
-        status = library.coniks_core_history(*memory.watched, asking, verdicts, _core.Siblings(), steps, len(steps), count)
-        check(status)
-        return [self._told(it, key, now) for it, key in with_keys(steps[: count.value])]
+        now, asking = self._now(), _core.History(requested, len(requested), history, len(history))
+        verdicts = self._verifier.of_history(requested, history, needs)
+        room = len(self._memory.stored) + 1
+        steps = _core.Steps((_core.Step * room)(), room)
+        check(library.coniks_core_history(self._memory, asking, verdicts, _core.Siblings(), steps))
+        return [self._reported(it, key, now) for it, key in with_keys(steps)]
 
-    def _told(self, found: Any, key: bytes, now: float) -> Found:
+    def _reported(self, found: Any, key: bytes, now: float) -> Found:
         """What the core found, in Python."""
-        epoch, kept = self._memory.epoch(found.place), self._memory.kept[found.place]
-        is_key, first_seen = found.shows == _SHOWS_KEY, int.from_bytes(kept.first_seen, "big")
+        epoch, stored = self._memory.epoch(found.place), self._memory.stored[found.place]
+        is_key, first_seen = found.shows == _SHOWS_KEY, int.from_bytes(stored.first_seen, "big")
         return Found(epoch, key if is_key else None, _WATCHED[found.seen], self._age(epoch, now), first_seen)
 
     # The clock.
@@ -376,9 +368,6 @@ class Client:
 
     def _second(self) -> int:
         return math.floor(self._now())
-
-    def _present(self, now: float) -> _core.Present:
-        return _core.Present(*self._limits, math.floor(now))
 
     def _age(self, epoch: int, now: float) -> Optional[float]:
         """How many seconds ago an epoch began by the policy's clock, None without one."""
@@ -395,18 +384,17 @@ class Client:
         first, memory = 0 if since is None else _number(since, 64, "the first epoch"), self._memory
         named, expected = memory.hold(_name(name), expected_key(key))
         wanted = _core.Watch(1, *named, first, *expected)
-        status = library.coniks_core_watch(*memory.watched, wanted, since is not None)
-        check(status, length=named[1])
+        check(library.coniks_core_watch(memory, wanted, since is not None), length=named[1])
 
     def expect(self, new: Optional[bytes], by: int) -> None:
         """Expects the owner's own change of the key: later epochs may show the old or the new key, and from epoch `by` on only
         the new one. No epoch may show the old key after one that showed the new key. Raises ValueError if no name is watched, and
         while another change is open: until the chain has its epoch `by` or a later one, or an epoch showed its key."""
-        key, number, memory = expected_key(new), _number(by, 64, "the epoch"), self._memory
+        key, number = expected_key(new), _number(by, 64, "the epoch")
+        self._memory = memory = self._memory.with_room(changes=1)
         memory.hold(key)
-        memory.changes.reserve(1)
-        status = library.coniks_core_expect(*memory.kept.present, memory.watch, *memory.changes.all, key, len(key), number)
-        latest, last = memory.epoch(-1) if len(memory.kept) else 0, memory.changes[-1].first_new if len(memory.changes) else 0
+        status = library.coniks_core_expect(memory, key, len(key), number)
+        latest, last = memory.epoch(-1) if len(memory.stored) else 0, memory.changes[-1].first_new if len(memory.changes) else 0
         check(status, latest=latest, last=last)
 
     @property
@@ -418,12 +406,12 @@ class Client:
     def lost(self) -> list[int]:
         """The missing epochs of which the policy promises no proof any more, by the client's clock. Say that they can no longer be
         verified, never that they are the same."""
-        present, kept = self._present(self._now()), self._memory.kept
-        return [it for it, at in self._missing() if library.coniks_core_lost(present, self._promise, *kept.present, at)]
+        now = self._second()
+        return [it for it, at in self._missing() if library.coniks_core_lost(self._memory, now, at)]
 
     def _missing(self) -> list[tuple[int, int]]:
         """The missing epochs with their places."""
-        seen = self._memory.column(_core.Kept.seen.offset, _core.Kept.seen.offset + 1)
+        seen = self._memory.column(_core.StoredEntry.seen.offset, _core.StoredEntry.seen.offset + 1)
         return [(epoch, at) for at, epoch in enumerate(self._memory.epochs()) if seen[at][0] == _MISSING]
 
     @property
@@ -433,17 +421,13 @@ class Client:
 
     def note(self, epoch: int) -> None:
         """Takes note of the alarms up to an epoch, which the owner has seen: they are dropped."""
-        check(library.coniks_core_note(*self._memory.alarms.all, _number(epoch, 64, "the epoch")))
+        check(library.coniks_core_note(self._memory, _number(epoch, 64, "the epoch")))
 
     def report(self) -> Report:
         """Returns what to tell the owner of the watched name. Raises ValueError if none is watched."""
-        memory, told = self._memory, _core.Report()
-        status = library.coniks_core_report(
-            self._present(self._now()), *memory.kept.present, memory.watch, self._promise, *memory.alarms.present, *memory.marks,
-            self._quorum, told,
-        )  # fmt: skip
-        check(status)
-        return Report(_REPORTED[told.verdict], told.first, told.last)
+        reported = _core.Report()
+        check(library.coniks_core_report(self._memory, self._second(), reported))
+        return Report(_REPORTED[reported.verdict], reported.first, reported.last)
 
     # The state.
 
@@ -451,23 +435,19 @@ class Client:
     def state(self) -> bytes:
         """All that the client keeps, to be stored, and given to another one: 110 bytes, 218 for each epoch, 9 for each alarm, 8 for each
         auditor, and the watched name."""
-        size, saved = ctypes.c_size_t(), self._memory.saved(self._trust_digest)
-        check(library.coniks_core_state_size(self._digest, saved, size))
+        size = ctypes.c_size_t()
+        check(library.coniks_core_state_size(self._memory, size))
         state = ctypes.create_string_buffer(size.value)
-        check(library.coniks_core_state_write(self._digest, saved, state, size.value, size))
+        check(library.coniks_core_state_write(self._memory, state, size.value, size))
         return state.raw
 
-    def _read(self, state: bytes, auditors: int) -> Memory:
+    def _read(self, state: bytes, rules: _core.Rules, auditors: int) -> Memory:
         """What a state has. Its marks are 0 if it is of other auditors."""
         needs = _core.StateNeeds()
-        check(library.coniks_core_state_needs(self._digest, state, len(state), needs))
+        check(library.coniks_core_state_needs(_core.Core(rules), state, len(state), needs))
         verdicts = self._verifier.of_state(state, needs)
-        memory = Memory(auditors, needs.kept, needs.changes, needs.alarms, state)
-        status = library.coniks_core_state_read(
-            self._digest, state, len(state), verdicts, needs.kept, self._trust_digest, *memory.kept.all, memory.watch,
-            *memory.changes.all, *memory.alarms.all, *memory.marks,
-        )  # fmt: skip
-        check(status)
+        memory = Memory(rules, auditors, state, stored=needs.stored, changes=needs.changes, alarms=needs.alarms)
+        check(library.coniks_core_state_read(memory, state, len(state), verdicts, needs.stored))
         return memory
 
 
@@ -477,6 +457,13 @@ def check(status: int, of_entry: Optional[Status] = None, evidence: Optional[Evi
         raise ValueError(MISUSES[Misuse(status)].format(**values))
     if status:
         raise Refusal(Cause(status), of_entry, evidence)
+
+
+def dropped(memory: Memory, now: int) -> list[int]:
+    """Drops the first epochs, as far as a quorum of the marks confirms, and returns them."""
+    epochs, covered = memory.epochs(), _core.Covered()
+    check(library.coniks_core_cover(memory, now, covered))
+    return epochs[: covered.epochs]
 
 
 def entries_of(catch_up: bytes) -> list[bytes]:
@@ -523,6 +510,14 @@ def check_keys(policy: Any, signing_key: Any, vrf_key: Any) -> None:
         raise Refusal(Cause.POLICY_KEYS)
 
 
+def rules_of(policy: Any, max_age: Optional[float], skew: float, trust: Optional[Trust]) -> _core.Rules:
+    """What a policy and a trust document fix."""
+    document = policy if isinstance(policy, Policy) else None
+    of_policy, clock, promised = digest(policy), limits(document, max_age, skew), promise(document)
+    of_trust, quorum = trusted(trust)
+    return _core.Rules(of_policy, of_trust, clock, promised, quorum)
+
+
 def digest(policy: Any) -> Any:
     """A policy digest."""
     given = policy.digest if isinstance(policy, Policy) else _bytes(policy, "the policy")
@@ -531,18 +526,18 @@ def digest(policy: Any) -> Any:
     return _bytes32(given, "the policy digest")
 
 
-def limits(policy: Optional[Policy], max_age: Optional[float], skew: float) -> tuple[int, ...]:
-    """The policy's clock and the client's limits, as the core has them."""
+def limits(policy: Optional[Policy], max_age: Optional[float], skew: float) -> _core.Clock:
+    """The policy's clock and the client's limits."""
     start, period = (policy.epoch_start, policy.epoch_period) if policy else (None, None)
     # No epoch is older than 2^64 seconds.
     longest = min(2 * (period or 0), (1 << 64) - 1) if max_age is None else math.floor(seconds(max_age, "max_age"))
-    return int(start is not None), start or 0, period or 0, longest, math.floor(seconds(skew, "skew"))
+    return _core.Clock(start is not None, start or 0, period or 0, longest, math.floor(seconds(skew, "skew")))
 
 
 def promise(policy: Optional[Policy]) -> _core.Promise:
     """For how long a policy promises proofs, for ever without one."""
-    kept = policy.proofs_kept if policy else None
-    return _core.Promise(kept is not None, kept or 0)
+    stored = policy.proofs_kept if policy else None
+    return _core.Promise(stored is not None, stored or 0)
 
 
 def trusted(trust: Optional[Trust]) -> tuple[Any, int]:

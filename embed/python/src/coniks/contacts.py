@@ -139,8 +139,14 @@ class Commands:
         elif verdict in _UNCONFIRMED:
             verdict = _UNCONFIRMED[verdict]
         before, key = (None if it is None else key_text(it) for it in (seen and bytes.fromhex(seen["value"]), found.key))
-        told: dict[str, Any] = {"name": name, "epoch": found.epoch, "key": key, "before": before, "change": change and change.value}
-        person.tell(verdict, by=by, is_verified=is_verified, **told)
+        reported: dict[str, Any] = {
+            "name": name,
+            "epoch": found.epoch,
+            "key": key,
+            "before": before,
+            "change": change and change.value,
+        }
+        person.tell(verdict, by=by, is_verified=is_verified, **reported)
 
     def _judged(self, name: str, value: Optional[bytes], change: Optional[Change], wanted: Optional[bytes]) -> Verdict:
         """Returns the verdict on the key of a name. `change` is what it is to the key before, None if none was accepted."""

@@ -63,7 +63,7 @@ class Fault(ProviderError):
     `latest` the latest epoch, `member` the line's member that is missing or wrong; each is None for other faults. `advice` is
     what to do next, if that is more than to fix the request."""
 
-    said = "the line is refused"
+    reason = "the line is refused"
 
     def __init__(
         self,
@@ -74,7 +74,7 @@ class Fault(ProviderError):
     ):
         self.position, self.latest, self.member, self.advice = position, latest, member, advice
         given = [("operation", position), ("latest epoch", latest), ("member", member)]
-        text = ", ".join([self.said, *(f"{what} {it}" for what, it in given if it is not None)])
+        text = ", ".join([self.reason, *(f"{what} {it}" for what, it in given if it is not None)])
         super().__init__(text if advice is None else f"{text}: {advice}")
 
     def __reduce__(self) -> tuple[type[Fault], tuple[Any, ...]]:
@@ -85,95 +85,95 @@ class Fault(ProviderError):
 
 
 class Json(Fault):
-    said = "the line is no JSON object"
+    reason = "the line is no JSON object"
 
 
 class Command(Fault):
-    said = "the line has no command of the program"
+    reason = "the line has no command of the program"
 
 
 class Member(Fault):
-    said = "a member is missing or wrong"
+    reason = "a member is missing or wrong"
 
 
 class NotOpen(Fault):
-    said = "the directory isn't open"
+    reason = "the directory isn't open"
 
 
 class AlreadyOpen(Fault):
-    said = "the directory is open already"
+    reason = "the directory is open already"
 
 
 class BatchTooLong(Fault):
-    said = "a batch has at most 4,096 operations"
+    reason = "a batch has at most 4,096 operations"
 
 
 class EpochNotLater(Fault):
-    said = "the epoch isn't later than the latest one"
+    reason = "the epoch isn't later than the latest one"
 
 
 class NotPrepared(Fault):
-    said = "no update is pending"
+    reason = "no update is pending"
 
 
 class NotAbandoned(Fault):
-    said = "the line abandons another update than the pending one"
+    reason = "the line abandons another update than the pending one"
 
 
 class OtherUpdate(Fault):
-    said = "the line names another body or link than its own"
+    reason = "the line names another body or link than its own"
 
 
 class UnknownEpoch(Fault):
-    said = "there is no such epoch, or it is before the snapshot"
+    reason = "there is no such epoch, or it is before the snapshot"
 
 
 class OtherIndex(Fault):
-    said = "the name is registered with another index"
+    reason = "the name is registered with another index"
 
 
 class NotRestoring(Fault):
-    said = "no restore has begun"
+    reason = "no restore has begun"
 
 
 class NotLater(Fault):
-    said = "the entry's epoch isn't later than the one before it"
+    reason = "the entry's epoch isn't later than the one before it"
 
 
 class Version(Fault):
-    said = "the entry has neither version 1 nor 2"
+    reason = "the entry has neither version 1 nor 2"
 
 
 class Malformed(Fault):
-    said = "the epoch before the entry's is 0, and its previous link isn't zeros"
+    reason = "the epoch before the entry's is 0, and its previous link isn't zeros"
 
 
 class RootDiffers(Fault):
-    said = "the root of the bindings isn't that of the entry"
+    reason = "the root of the bindings isn't that of the entry"
 
 
 class NameLength(Fault):
-    said = "a name has 1 to 255 bytes"
+    reason = "a name has 1 to 255 bytes"
 
 
 class KeyLength(Fault):
-    said = "a key has 1 to 16,384 bytes"
+    reason = "a key has 1 to 16,384 bytes"
 
 
 class NameTwice(Fault):
-    said = "an earlier operation has this name"
+    reason = "an earlier operation has this name"
 
 
 class NameTaken(Fault):
-    said = "the name to register is registered already"
+    reason = "the name to register is registered already"
 
 
 class NameUnknown(Fault):
-    said = "the name to change isn't registered"
+    reason = "the name to change isn't registered"
 
 
 class IndexClash(Fault):
-    said = "another name has this index"
+    reason = "another name has this index"
 
 
 # formats.toml: end
@@ -184,16 +184,16 @@ BY_NAME["ReplayDiffers"] = OtherUpdate
 
 
 class EpochSpent(ProviderError):
-    """The signer was asked for another body of this epoch number or a later one, `asked`, so `epoch` can't be used."""
+    """The signer was asked for another body of this epoch number or a later one, `requested`, so `epoch` can't be used."""
 
-    def __init__(self, epoch: int, asked: int):
-        self.epoch, self.asked = epoch, asked
+    def __init__(self, epoch: int, requested: int):
+        self.epoch, self.requested = epoch, requested
         super().__init__(
-            f"epoch {epoch} isn't later than {asked}, for which the signer was asked with other operations: take a later number"
+            f"epoch {epoch} isn't later than {requested}, for which the signer was asked with other operations: take a later number"
         )
 
     def __reduce__(self) -> tuple[type[EpochSpent], tuple[int, int]]:
-        return type(self), (self.epoch, self.asked)
+        return type(self), (self.epoch, self.requested)
 
 
 class EpochNotNow(ProviderError):
@@ -265,7 +265,7 @@ class LogRefused(LogFailed):
 
 
 class LinesDropped(LogFailed):
-    """The log begins after the line that is asked for, because `drop_before` dropped the lines below its snapshot's position."""
+    """The log begins after the line that is requested, because `drop_before` dropped the lines below its snapshot's position."""
 
 
 class NoDirectory(LogFailed):

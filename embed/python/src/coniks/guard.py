@@ -18,7 +18,7 @@ What holds, if the disk keeps what was synced, and only guards change the record
 - The key is used for a body only if the record names it. So a crash leaves no signature that the record doesn't know of.
 - After `abandon` returns, no signature of that body is returned, also not one that is under way in another process.
 
-A body that was asked for is open until it is signed or abandoned: no other one is accepted meanwhile. The same body can be asked
+A body that was requested is open until it is signed or abandoned: no other one is accepted meanwhile. The same body can be asked
 for again. All calls can be used from several threads and processes, and an interrupt ends only the call that it hits.
 """
 
@@ -36,7 +36,7 @@ from . import BODY_LENGTH, ENTRY_LENGTH
 from ._files import Path, identity_at, identity_of, rewrite, sync_folder
 from ._formats import SIGNATURE_LENGTH
 from ._formats import GuardRefusal as Refusal
-from ._guarding import Record, Said, StepRefused, epochs, load
+from ._guarding import Record, Reply, StepRefused, epochs, load
 from ._layout import body_of, signature_of
 from ._lines import sized
 
@@ -140,12 +140,12 @@ class Guard:
         stored signature, and the key isn't used unless `verify` refuses that signature. Raises `BodyRefused` for another body, and
         what `sign` raises."""
         body = sized(body, BODY_LENGTH, "a body")
-        said, stored = self._change(lambda it: self._asking(it, body)).answer(body)
-        if said is Said.UNSETTLED or self._is_wrong(body, stored):
+        reply, stored = self._change(lambda it: self._asking(it, body)).answer(body)
+        if reply is Reply.UNSETTLED or self._is_wrong(body, stored):
             signature = sized(self._sign(body), SIGNATURE_LENGTH, "the signature")
             self._check_signature(body, signature)
-            said, stored = self._change(lambda it: self._signing(it, body, signature)).answer(body)
-        if said is not Said.SIGNED:
+            reply, stored = self._change(lambda it: self._signing(it, body, signature)).answer(body)
+        if reply is not Reply.SIGNED:
             raise BodyAbandoned(f"the body of epoch {epochs(body)[1]} was abandoned: commit under a later epoch")
         self._may_begin = False
         return stored
@@ -153,8 +153,8 @@ class Guard:
     def abandon(self, body: bytes) -> None:
         """Refuses a body for ever. Raises `BodySigned` if a signature of it may have been returned."""
         body = sized(body, BODY_LENGTH, "a body")
-        said, _ = self._change(lambda it: self._abandoning(it, body)).answer(body)
-        if said is not Said.ABANDONED:
+        reply, _ = self._change(lambda it: self._abandoning(it, body)).answer(body)
+        if reply is not Reply.ABANDONED:
             raise BodySigned(f"the body of epoch {epochs(body)[1]} is signed: ask for its signature again, and install it")
 
     def signed(self) -> Optional[bytes]:
@@ -162,7 +162,7 @@ class Guard:
         return self._durable().signed or None
 
     def asked(self) -> Optional[bytes]:
-        """Returns the body that was asked for, and is neither signed nor abandoned. None if there is none."""
+        """Returns the body that was requested, and is neither signed nor abandoned. None if there is none."""
         return self._durable().asked or None
 
     def verify_by(self, verify: Callable[[bytes, bytes], bool]) -> None:

@@ -85,9 +85,9 @@ class Policy:
         if not found:
             raise ValueError("this is no policy document of docs/FORMATS.md: take the bytes that its directory publishes")
         origin, signing_key, vrf_key, records = found.group(1, 2, 3, 6)
-        start, period, kept = (None if it is None else int(it) for it in found.group(4, 5, 7))
+        start, period, stored = (None if it is None else int(it) for it in found.group(4, 5, 7))
         keys = bytes.fromhex(signing_key), None if vrf_key is None else bytes.fromhex(vrf_key)
-        return cls(origin, *keys, start, period, kept, records_vouched=records is not None)
+        return cls(origin, *keys, start, period, stored, records_vouched=records is not None)
 
     def __bytes__(self) -> bytes:
         """The document, which clients and auditors get."""
@@ -95,9 +95,9 @@ class Policy:
         if self.vrf_key is not None:
             vrf = ["vrf ECVRF-EDWARDS25519-SHA512-TAI", f"vrf-key {self.vrf_key.hex()}"]
         clock = [] if self.epoch_start is None else [f"epoch-start {self.epoch_start}", f"epoch-period {self.epoch_period}"]
-        kept = "forever" if self.proofs_kept is None else self.proofs_kept
+        stored = "forever" if self.proofs_kept is None else self.proofs_kept
         lines = ["policy coniks-1", f"origin {self.origin}", "signature Ed25519", f"signing-key {self.signing_key.hex()}"]
-        promises = ["evidence one-chain", *(["records vouched"] if self.records_vouched else []), f"proofs-kept {kept}"]
+        promises = ["evidence one-chain", *(["records vouched"] if self.records_vouched else []), f"proofs-kept {stored}"]
         return "".join(f"{it}\n" for it in [*lines, *vrf, *clock, *promises]).encode()
 
     @property

@@ -11,7 +11,7 @@ raises `NoDirectory` otherwise.
 the same bytes for a name each time. `sign(body)` returns the signature, 64 bytes, of the 145 bytes of a signed tree root
 (STR). `sign` must not call `commit`, `retry`, `abandon`, `restart`, `compact` or `close`. Both are also called in a thread of the
 provider's own. `coniks.guard.Guard` is a `sign` that keeps a record. From it a provider takes three more calls, if they are
-there: `signed()` and `asked()` return the last entry that was signed, and the body that was asked for and isn't signed, or None;
+there: `signed()` and `asked()` return the last entry that was signed, and the body that was requested and isn't signed, or None;
 `abandon(body)` refuses a body for ever.
 
 The directory is in the child's memory, and the log is its store. Each accepted line is appended to the log, and a new child

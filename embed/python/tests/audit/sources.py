@@ -27,12 +27,12 @@ class Source(AbstractContextManager["Source"]):
     def __init__(self, entries: Sequence[bytes]):
         self.entries, self.note = list(entries), b""
         self.page: Optional[Callable[[int], Optional[bytes]]] = None
-        self.asked: list[str] = []
+        self.requested: list[str] = []
         source = self
 
         class Handler(BaseHTTPRequestHandler):
             def do_GET(self) -> None:
-                source.asked.append(self.path)
+                source.requested.append(self.path)
                 body = source.body(self.path)
                 self.send_response(200 if body is not None else 500)
                 self.end_headers()

@@ -93,7 +93,7 @@ def test_honest_service(room: Room) -> None:
         source.entries = WORLD.entries()
         assert room.once(source.url) == 0 and room.head == head_of(WORLD, 6)
         assert room.once(source.url) == 0 and room.read("entries") == b"".join(WORLD.entries())
-        assert source.asked[-2:] == ["/v1/entries?after=5", "/v1/entries?after=6"], "it asks from its latest entry on"
+        assert source.requested[-2:] == ["/v1/entries?after=5", "/v1/entries?after=6"], "it asks from its latest entry on"
     note = read_note(room.read("note"))
     data = base64.b64decode(note.lines[0].split(" ")[2])
     message = f"cosignature/v1\ntime {NOW}\n{note.text}".encode()
@@ -451,13 +451,13 @@ def test_honest_peers(room: Room) -> None:
     with Source(WORLD.entries(1, 2, 3, 5)) as service, Source(WORLD.entries()) as peer:
         peer.note = published(WORLD, 2)
         assert room.once(service.url, "--peer", peer.url, str(AUDITORS["other"])) == 0 and room.head == head_of(WORLD, 5)
-        assert "/v1/entries" not in "".join(peer.asked), "equal heads need no entries"
+        assert "/v1/entries" not in "".join(peer.requested), "equal heads need no entries"
         peer.note = published(WORLD, 6)
         assert room.once(service.url, "--peer", peer.url, str(AUDITORS["other"])) == 0 and room.head == head_of(WORLD, 6)
 
 
 def test_lying_peers(room: Room) -> None:
-    """A peer that cosigns what it can't show is told apart from a directory that lies, and stops nobody."""
+    """A peer that cosigns what it can't show is reported apart from a directory that lies, and stops nobody."""
     with Source(WORLD.entries()) as service, Source(WORLD.entries()) as peer:
         words = [service.url, "--peer", peer.url, str(AUDITORS["other"])]
         peer.note = published(FORKS["the last entry"], 6)

@@ -129,7 +129,7 @@ def place(tmp_path: Path, monkeypatch: pytest.MonkeyPatch) -> Iterator[Place]:
 
 @pytest.mark.parametrize("name", RUNS)
 def test_verdict(name: str, place: Place, capsys: pytest.CaptureFixture[str]) -> None:
-    """A verdict is told in one line of JSON, and the run ends with its status."""
+    """A verdict is reported in one line of JSON, and the run ends with its status."""
     run = RUNS[name]
     if run.is_later:
         assert place.once() == 0

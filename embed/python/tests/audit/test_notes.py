@@ -72,7 +72,7 @@ def test_text() -> None:
     digest = hashlib.sha256(client_world.SIGNING_KEY + hashlib.sha256(client_world.POLICY.encode()).digest()).hexdigest()
     assert text_of(POLICY, HEAD) == f"keys.example.com/{digest}\n17\nAAECAwQFBgcICQoLDA0ODxAREhMUFRYXGBkaGxwdHh8=\n"
     assert read_note(bytes(cosigned(0, 1))).head(POLICY) == HEAD
-    others = [client_world.policy_text(kept=5), client_world.policy_text(signing=client_world.VRF_KEY)]
+    others = [client_world.policy_text(stored=5), client_world.policy_text(signing=client_world.VRF_KEY)]
     for other in others:
         with pytest.raises(BadNote):
             cosigned(0).head(Policy.read(other.encode()))

@@ -32,7 +32,7 @@ class AlarmWalk(Walk):
 
     def step(self) -> Answer:
         """A step, sometimes some hours after the one before."""
-        often = [self.lookup] * 6 + [self.mark] * 9 + [self.told] * 6 + [self.cover] * 2
+        often = [self.lookup] * 6 + [self.mark] * 9 + [self.reported] * 6 + [self.cover] * 2
         step = self.chance.choice([*often, self.feed, self.feed, self.history, self.watch, self.expect, self.note, self.again])()
         self.now += self.chance.choice([0, 0, 0, 3600, 7200])
         return {**step, "now": self.now}
@@ -50,7 +50,7 @@ class AlarmWalk(Walk):
         epoch = NUMBERS[self.fed - 1]
         return {"do": "lookup", "name": NAME, "reply": WORLD.reply("alice", epoch).hex(), "epoch": epoch}
 
-    def told(self) -> Answer:
+    def reported(self) -> Answer:
         return {"do": self.chance.choice(["missing", "alarms", "confirmed", *["report"] * 5])}
 
     def cover(self) -> Answer:

@@ -15,7 +15,7 @@ from client import Client, Trust
 from client_world import NONCE, PERIOD, SIGNING_KEY, START, VRF_KEY, digest, policy_text
 from replies import reply
 
-POLICY = policy_text(kept=0)
+POLICY = policy_text(stored=0)
 TRUST = Trust(sha256(b"trust"), 1, 1)
 # What an epoch can show of a name with the key `A`, by what a state says of it.
 SHOWN: dict[int, Optional[bytes]] = {1: b"A", 3: b"B", 4: None}
@@ -96,23 +96,23 @@ class Search:
                 raise Broken("an honest history is not", moment, over)
         if client.confirmed_epoch != max((it for it, _ in moment.marked), default=None):
             raise Broken("another epoch is confirmed", moment)
-        chain = {it.entry.link for it in client.kept}
+        chain = {it.entry.link for it in client.stored}
         if any(epoch > moment.dropped and link not in chain for epoch, link in moment.marked):
             raise Broken("a head counts that is not in the chain", moment)
 
     def wanted(self, moment: Moment, over: int) -> list[object]:
         """What a client should report, by what has happened."""
-        kept = [(it, moment.seen[it - 1]) for it in range(max(self.since, moment.dropped + 1), len(moment.seen) + 1)]
-        others = [it for it, seen in [*moment.alarms, *kept] if seen in (3, 4)]
-        missing = [it for it, seen in kept if seen == MISSING and not self.is_lost(moment, it, over)]
-        lost = [it for it, seen in [*moment.alarms, *kept] if seen == MISSING]
+        stored = [(it, moment.seen[it - 1]) for it in range(max(self.since, moment.dropped + 1), len(moment.seen) + 1)]
+        others = [it for it, seen in [*moment.alarms, *stored] if seen in (3, 4)]
+        missing = [it for it, seen in stored if seen == MISSING and not self.is_lost(moment, it, over)]
+        lost = [it for it, seen in [*moment.alarms, *stored] if seen == MISSING]
         for what, epochs in [("changed", others), ("missing", missing), ("lost", lost)]:
             if epochs:
                 return [what, epochs[0]]
-        if not kept:
+        if not stored:
             return ["unwatched"]
         is_good = any(it >= len(moment.seen) for it, _ in moment.marked)
-        return ["good" if is_good else "unconfirmed", kept[0][0], kept[-1][0]]
+        return ["good" if is_good else "unconfirmed", stored[0][0], stored[-1][0]]
 
     def is_lost(self, moment: Moment, epoch: int, over: int) -> bool:
         return epoch < len(moment.seen) and epoch + 1 <= over
@@ -126,7 +126,7 @@ class Search:
                 yield self.lookup(moment, epoch, seen, key)
         for epoch in range(moment.dropped + 1, latest + 1):
             client = self.client(moment.state)
-            link = client.kept[epoch - moment.dropped - 1].entry.link
+            link = client.stored[epoch - moment.dropped - 1].entry.link
             if client.mark(0, epoch, link) != {"mark": "equal"}:
                 raise Broken("a head is not equal", moment, epoch)
             yield replace(moment, state=client.state, marked=moment.marked | {(epoch, link)})
@@ -165,13 +165,13 @@ class Search:
         if any(moment.seen[it - 1] == MISSING and not self.is_lost(moment, it, over) for it in gone):
             raise Broken("a missing epoch is dropped that is not lost", moment, over, gone)
         oldest = moment.dropped + len(gone) + 1
-        kept = range(moment.dropped + 1, len(moment.seen) + 1)
-        needed = [it for it in kept if moment.seen[it - 1] == MISSING and not self.is_lost(moment, it, over)]
+        stored = range(moment.dropped + 1, len(moment.seen) + 1)
+        needed = [it for it in stored if moment.seen[it - 1] == MISSING and not self.is_lost(moment, it, over)]
         if confirmed and moment.seen and oldest != min([max(confirmed, moment.dropped + 1), *needed]):
             raise Broken("an epoch keeps others", moment, over, gone)
         if not confirmed and gone:
             raise Broken("epochs are dropped that nobody confirms", moment, over, gone)
-        if moment.seen and not client.kept:
+        if moment.seen and not client.stored:
             raise Broken("no epoch is left", moment, over)
         self.counts["covers that drop"] += bool(gone)
         return replace(moment, state=client.state, dropped=moment.dropped + len(gone))

@@ -161,7 +161,7 @@ CALLS: dict[str, Callable[[Client, Answer], Answer]] = {
 }
 
 
-def told(call: Callable[[], Answer], client: Optional[Client]) -> Answer:
+def outcome(call: Callable[[], Answer], client: Optional[Client]) -> Answer:
     """What a call returns, or its error as members."""
     try:
         return call()
@@ -189,11 +189,11 @@ def verdicts(case: Answer) -> Answer:
         made.append(begun(case, clock))
         return {"begun": True}
 
-    answer = told(begin, None)
+    answer = outcome(begin, None)
     if not made:
         return {"begin": answer, "steps": [], "state": None}
     client, answers = made[0], []
     for step in case["steps"]:
         clock.now = step.get("now", clock.now)
-        answers.append(told(lambda: CALLS[step["do"]](client, step), client))
+        answers.append(outcome(lambda: CALLS[step["do"]](client, step), client))
     return {"begin": answer, "steps": answers, "state": hashlib.sha256(client.state).hexdigest()}

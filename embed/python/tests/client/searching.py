@@ -18,7 +18,7 @@ from coniks.client import Client
 
 
 # No proof of an epoch is promised once the next one has begun.
-POLICY = policy_text(kept=0)
+POLICY = policy_text(stored=0)
 INDEX = client_world.index("alice")
 # The keys of a directory; the owner begins with the first one. The others are alike, so the last one comes after the one before it.
 KEYS = "ABC"
@@ -132,7 +132,7 @@ class Moment:
     same: frozenset[int] = frozenset()
 
     @property
-    def kept(self) -> range:
+    def stored(self) -> range:
         count = int.from_bytes(self.state[33:37], "big")
         return range(len(self.keys) - count + 1, len(self.keys) + 1)
 
@@ -210,12 +210,12 @@ class Search:
                 side = self.at(moment)
                 if side.expect(key, by):
                     yield replace(moment, declared=(*moment.declared, (latest, by, key)), state=side.state)
-        for epoch in moment.kept:
+        for epoch in moment.stored:
             for state in self.at(moment).covers(epoch, self.links[moment.keys[:epoch]]):
                 yield replace(moment, state=state)
 
     def lookups(self, moment: Moment) -> Iterator[Moment]:
-        for epoch in moment.kept:
+        for epoch in moment.stored:
             side = self.at(moment)
             is_same = side.lookup(self.replies[moment.keys[:epoch]], epoch)
             self.seen["same" if is_same else "another key"] += 1

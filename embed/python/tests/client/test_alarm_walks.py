@@ -41,17 +41,17 @@ def walked(case: Answer) -> list[str]:
     """The reports of a walk, and what else happened in it."""
     client, seen = second.begun(case), list[str]()
     for step in case["steps"]:
-        again, alarms, entries = second.begun({**case, "state": client.state.hex()}), list(client.alarms), len(client.kept)
+        again, alarms, entries = second.begun({**case, "state": client.state.hex()}), list(client.alarms), len(client.stored)
         answer, other = taken(client, step), taken(again, step)
         assert answer == other and client.state == again.state, (step, answer, other)
         what = answer.get("report", [""])[0]
         assert not (client.alarms and what in ("unwatched", "unconfirmed", "good")), (client.alarms, answer)
         assert step["do"] == "note" or client.alarms[: len(alarms)] == alarms, step
         dropped = answer.get("cover", [])
-        seen += [what, "signed again"] if answer.get("fed") and len(client.kept) == entries else [what]
+        seen += [what, "signed again"] if answer.get("fed") and len(client.stored) == entries else [what]
         seen += ["alarms"] if dropped and len(client.alarms) > len(alarms) else []
     return [it for it in seen if it]
 
 
 def taken(client: second.Client, step: Answer) -> Answer:
-    return second.told(lambda: second.stepped(client, copy.deepcopy(step), step["now"]))
+    return second.outcome(lambda: second.stepped(client, copy.deepcopy(step), step["now"]))

@@ -136,7 +136,7 @@ def test_reports() -> None:
 
 def test_lost_epochs() -> None:
     """Lost epochs keep no later one, whoever confirms it, and leave alarms."""
-    policy = coniks.Policy.read(policy_text(kept=PERIOD).encode())
+    policy = coniks.Policy.read(policy_text(stored=PERIOD).encode())
     world = World([(epoch, {"alice": b"key of alice"} if epoch == 1 else {}) for epoch in (1, 2, 3, 4)], policy=policy.digest)
     head = coniks.Head(4, world.link(4))
     for trust in (None, Trust(bytes(32), 1, 0)):

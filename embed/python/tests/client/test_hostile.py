@@ -382,8 +382,8 @@ def test_watching() -> None:
     """What the owner of a name is told."""
     client = made(fed=False)
     client.watch("alice", b"key of alice")
-    told = [it.seen for it in client.feed(b"".join(THREE))]
-    assert told == [Watched.MISSING] * 3 and client.missing == [1, 2, 3], "each epoch is missing at first"
+    reported = [it.seen for it in client.feed(b"".join(THREE))]
+    assert reported == [Watched.MISSING] * 3 and client.missing == [1, 2, 3], "each epoch is missing at first"
     found = client.history("alice", WORLD.history("alice", 1, 3))
     assert [it.seen for it in found] == [Watched.SAME, Watched.CHANGED] and client.missing == [2], "a history that leaves one out"
     client = made(client.state)
@@ -434,7 +434,7 @@ def check_texts(client: Client, *expected: tuple[str, Callable[[], object]]) -> 
 
 def test_lost() -> None:
     """Epochs that can no longer be verified, by clocks that return fractions or nothing, and by a bare digest."""
-    policy, clock = coniks.Policy.read(policy_text(kept=PERIOD).encode()), Clock()
+    policy, clock = coniks.Policy.read(policy_text(stored=PERIOD).encode()), Clock()
     world, end = World(BATCHES[:3], policy=policy.digest), hour(3, 0)
 
     def watching(given: Any, clock: Any) -> Client:

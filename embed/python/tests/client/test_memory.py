@@ -24,7 +24,7 @@ EPOCHS = 40
 def long_case() -> Answer:
     """An owner who changes the key at each epoch, and sees each third epoch. The others are lost, and dropped at once."""
     keys = [b"key %d" % it for it in range(EPOCHS + 2)]
-    policy = policy_text(kept=PERIOD)
+    policy = policy_text(stored=PERIOD)
     world = World([(it, {"alice": keys[it]}) for it in range(1, EPOCHS + 1)], policy=digest(policy))
     name, steps = b"alice".hex(), list[Answer]()
     for it in range(1, EPOCHS + 1):
@@ -52,7 +52,7 @@ def test_room_is_doubled() -> None:
     world, client, rooms = World([(it, {}) for it in range(1, EPOCHS + 1)], policy=digest()), made(fed=False), set[int]()
     for entry in world.entries():
         client.feed([entry])
-        rooms.add(len(client._memory.kept.memory))
+        rooms.add(client._memory.stored.room)
     assert rooms == {1, 2, 4, 8, 16, 32, 64}
 
 

@@ -12,7 +12,7 @@ import coniks
 
 PACKAGE = Path(coniks.__file__).parent
 # What the verdicts of these calls are named.
-TAKES = {"feed": "is_signed", "start": "is_signed", "evidence": "is_signed"}
+TAKES = {"feed": "received", "start": "received", "evidence": "received"}
 TAKES |= {"lookup": "verdicts", "history": "verdicts", "state_read": "verdicts"}
 
 
@@ -24,9 +24,9 @@ def test_calls_of_the_core() -> None:
 def test_no_other_verdict() -> None:
     for file in PACKAGE.glob("*.py"):
         text = file.read_text("utf-8")
-        assert ("_core.Verdicts(" in text) == (file.name == "_verdicts.py"), file.name
+        assert all((f"_core.{it}(" in text) == (file.name == "_verdicts.py") for it in ("Received", "Verdicts")), file.name
         if file.name in ("client.py", "_core.py", "_memory.py", "_messages.py"):
-            assert not re.search(r"\.verify\(|is_signed\(|_ecvrf|\.index\(", text), file.name
+            assert not re.search(r"\.verify\(|is_signed\(|_ecvrf|\.index\(|\.signature\b", text), file.name
 
 
 def assigned(tree: ast.AST) -> Iterator[tuple[str, str]]:

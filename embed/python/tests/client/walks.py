@@ -14,7 +14,7 @@ from client_world import PERIOD, SIGNING_KEY, VRF_KEY, World, digest, hour, poli
 # The key that alice gets at each epoch, `-` if none. Some numbers have no epoch.
 KEYS = "-AB-ABCCBA"
 NUMBERS = [1, 2, 3, 4, 6, 7, 8, 9, 11, 12]
-POLICY = policy_text(kept=2 * PERIOD)
+POLICY = policy_text(stored=2 * PERIOD)
 NAME = b"alice".hex()
 
 
@@ -28,7 +28,7 @@ class Walk:
     world = world_of(KEYS)
 
     def __init__(self, chance: random.Random) -> None:
-        self.chance, self.fed, self.asked = chance, 0, 0
+        self.chance, self.fed, self.requested = chance, 0, 0
 
     def case(self, state: Optional[bytes]) -> Answer:
         steps = [self.step() for _ in range(self.chance.randrange(4, 14))]
@@ -41,11 +41,11 @@ class Walk:
 
     def missing(self) -> Answer:
         """By turns the lost epochs, as the proofs of one of the last epochs end or a second before, and the missing ones."""
-        self.asked += 1
-        if self.asked % 2 == 0:
+        self.requested += 1
+        if self.requested % 2 == 0:
             return {"do": "missing"}
         latest = NUMBERS[self.fed - 1] if self.fed else 0
-        return {"do": "lost", "now": hour(latest + self.asked % 3, -(self.asked // 2 % 2))}
+        return {"do": "lost", "now": hour(latest + self.requested % 3, -(self.requested // 2 % 2))}
 
     def key(self) -> Optional[str]:
         it = self.chance.choice(["A", "A", "B", "B", "C", None])
@@ -88,12 +88,14 @@ def state_of(case: Answer) -> bytes:
     client = case_runner.begun(case, clock)
     for step in case["steps"]:
         clock.now = step.get("now", clock.now)
-        case_runner.told(lambda: case_runner.CALLS[step["do"]](client, step), client)
+        case_runner.outcome(lambda: case_runner.CALLS[step["do"]](client, step), client)
     return client.state
 
 
 def seen_in(answer: Any) -> list[str]:
     """What the owner was told in a walk."""
     listed = [found for it in answer["steps"] for found in it.get("found", [it])]
-    told = [it["report"][0] for it in answer["steps"] if "report" in it] + ["dropped" for it in answer["steps"] if it.get("cover")]
-    return [it["seen"] for it in listed if it.get("seen")] + told + ["misuse" for it in answer["steps"] if "misuse" in it]
+    outcome = [it["report"][0] for it in answer["steps"] if "report" in it] + [
+        "dropped" for it in answer["steps"] if it.get("cover")
+    ]
+    return [it["seen"] for it in listed if it.get("seen")] + outcome + ["misuse" for it in answer["steps"] if "misuse" in it]

@@ -152,7 +152,7 @@ class Member(Node):
     """A process of the cluster."""
 
     def __init__(self, cluster: Cluster, is_writer: bool) -> None:
-        self.told, self.trap = cluster.told, SPAWN.RawArray("l", 2)
+        self.reported, self.trap = cluster.reported, SPAWN.RawArray("l", 2)
         log = partial(Trapped, cluster.database.conninfo, self.trap, cluster.chance.choice([0.3, 20]))
         super().__init__(log, cluster.program, Keys(cluster.signer), is_writer)
         cluster.callback(self.kill)
@@ -162,7 +162,7 @@ class Member(Node):
         try:
             return self.call(call, *arguments)
         except EXCUSED as error:
-            self.told[f"{type(error).__name__} told"] += 1
+            self.reported[f"{type(error).__name__} told"] += 1
             if isinstance(error, NameUnknown) and self.commits():
                 raise
             with suppress(ProviderError):
@@ -205,11 +205,11 @@ class Member(Node):
 
 
 class Cluster(ExitStack):
-    """Three processes over a database on a small disk, and what their clients were told."""
+    """Three processes over a database on a small disk, and what their clients were reported."""
 
     def __init__(self, program: str, scheme: type[Scheme], chance: random.Random) -> None:
         super().__init__()
-        self.program, self.chance, self.told = program, chance, Counter[str]()
+        self.program, self.chance, self.reported = program, chance, Counter[str]()
         self.acknowledged: list[tuple[Epoch, list[Operation]]] = []
         self.shown: dict[tuple[str, int], Lookup] = {}
         self.names, self.wrong = list[str](), list[str]()
@@ -344,20 +344,20 @@ class Cluster(ExitStack):
         record = guarded(self.signer)
         # The epochs before a snapshot are forgotten.
         first = max(int(it.surely("oldest")) for it in self.members)
-        self.told["epochs forgotten at a check"] += sum(int.from_bytes(it[1:9], "big") < first for it in chain)
-        kept = [(epoch, made) for epoch, made in self.acknowledged[-10:] if epoch.epoch >= first]
-        recent = {(it.name, epoch.epoch): it.key for epoch, made in kept for it in made}
+        self.reported["epochs forgotten at a check"] += sum(int.from_bytes(it[1:9], "big") < first for it in chain)
+        saved = [(epoch, made) for epoch, made in self.acknowledged[-10:] if epoch.epoch >= first]
+        recent = {(it.name, epoch.epoch): it.key for epoch, made in saved for it in made}
         shown_ = sorted(it for it in self.shown if it[1] >= first)
-        asked = [*recent, *self.chance.sample(shown_, min(len(shown_), 30))]
+        requested = [*recent, *self.chance.sample(shown_, min(len(shown_), 30))]
         answers = [
-            [it.surely("chain"), place(it.surely("latest")), *(it.surely("lookup", *of) for of in asked)] for it in self.members
+            [it.surely("chain"), place(it.surely("latest")), *(it.surely("lookup", *of) for of in requested)] for it in self.members
         ]
         found = answers[0][2:]
         yield "each acknowledged epoch is in the log", {epoch.entry for epoch, _ in self.acknowledged} <= {*chain}
         yield "each acknowledged key is shown", [shown(it) for it in found[: len(recent)]] == [*recent.values()]
         yield "each entry shown is in the log", {it.entry for it in self.shown.values()} <= {*chain}
         yield "each lookup has its answer", all(self.shown.get((it.name, it.epoch), it) == it for it in found)
-        yield "one body for each epoch", self.signer.is_asked_once()
+        yield "one body for each epoch", self.signer.is_requested_once()
         yield "a body is signed once it is logged", all(it.encode() in logged for it in lines(self.signer.file))
         yield "the chain is audited", audited(chain, self.signer.keys, has_library())
         yield "the guard's record is the log's", [record.signed(), record.asked()] == [chain[-1], None]

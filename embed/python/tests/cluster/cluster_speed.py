@@ -32,8 +32,8 @@ class Measured(Replica):
         """Lookups a second, and how many processors Python and the child use meanwhile."""
         chance, count, start = random.Random(), 0, self._clocks()
         while time.monotonic() < start[0] + seconds:
-            asked = [f"user-{chance.randrange(names)}" for _ in range(500)]
-            count += len(self.lookups(asked) if call == "lookups" else [self.lookup(it) for it in asked])
+            requested = [f"user-{chance.randrange(names)}" for _ in range(500)]
+            count += len(self.lookups(requested) if call == "lookups" else [self.lookup(it) for it in requested])
         took, own, child = (now - then for now, then in zip(self._clocks(), start))
         return [count / took, own / took, child / took]
 
@@ -92,14 +92,14 @@ def paced(own: Provider, names: int, seconds: float, rate: int = 200) -> list[fl
 
 def measure_outage(database: Database, own: Provider, names: int, seconds: float) -> None:
     """Lookups while PostgreSQL answers nothing and a commit is tried each second, and those of before."""
-    told = Counter[str]()
+    reported = Counter[str]()
 
     def commits() -> None:
         while not is_over.wait(1):
             try:
                 own.commit(own.latest().epoch + 1, [])
             except ProviderError as error:
-                told[type(error).__name__] += 1
+                reported[type(error).__name__] += 1
 
     for what, is_away in [("before", False), ("while PostgreSQL is stopped", True)]:
         is_over, committing = Event(), Thread(target=commits)
@@ -111,7 +111,7 @@ def measure_outage(database: Database, own: Provider, names: int, seconds: float
         committing.join()
         median, most = took[len(took) // 2] * 1e3, took[len(took) * 99 // 100] * 1e3
         print(
-            f"{what}: {len(took)} lookups in {seconds:.0f} s, none failed, p50 {median:.2f} ms, p99 {most:.2f} ms, commits: {dict(told)}"
+            f"{what}: {len(took)} lookups in {seconds:.0f} s, none failed, p50 {median:.2f} ms, p99 {most:.2f} ms, commits: {dict(reported)}"
         )
     database.go_on()
 

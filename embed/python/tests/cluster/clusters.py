@@ -74,7 +74,7 @@ class Cluster(ExitStack):
 
     def goes_on(self, what: str) -> None:
         assert self.look(), f"{what}: lookups go on"
-        assert self.signer.is_asked_once(), f"{what}: one body for each epoch: {self.signer.asked()}"
+        assert self.signer.is_requested_once(), f"{what}: one body for each epoch: {self.signer.requested()}"
 
     def stops(self, what: str, error: type[ProviderError]) -> None:
         """The replica notices that the log isn't what it was, keeps the evidence, and takes nothing more."""

@@ -57,7 +57,7 @@ def says(what: str, error: type[Exception], call: Callable[[], object], *words: 
     return text
 
 
-def asked(log: PostgresLog, query: str, pool: str = "_pool") -> Any:
+def requested(log: PostgresLog, query: str, pool: str = "_pool") -> Any:
     """The first value of a query in the session that the log's next call takes."""
 
     def first(session: Session) -> Any:

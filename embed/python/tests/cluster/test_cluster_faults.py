@@ -41,9 +41,11 @@ class Clusters:
     def close(self) -> None:
         """Ends the cluster, and counts what happened in it."""
         if self._cluster:
-            asked, told = lines(self._cluster.signer.file), self._cluster
-            self.counts.update({"bodies signed": len(asked), "signed again": len(asked) - len({*asked}), **told.told})
-            self.counts.update({"epochs acknowledged": len(told.acknowledged), "lookups kept": len(told.shown)})
+            requested, reported = lines(self._cluster.signer.file), self._cluster
+            self.counts.update(
+                {"bodies signed": len(requested), "signed again": len(requested) - len({*requested}), **reported.reported}
+            )
+            self.counts.update({"epochs acknowledged": len(reported.acknowledged), "lookups kept": len(reported.shown)})
         self._room.close()
         self._cluster = None
 
@@ -60,8 +62,8 @@ def test_fault(clusters: Clusters, number: int) -> None:
     if fault == "fill disk" and not cluster.database.folder.is_mount():
         pytest.skip("a full disk needs the right to mount a tmpfs")
     cluster.strike(fault)
-    for what, is_kept in cluster.check():
-        assert is_kept, f"{what}: {cluster.wrong[:3]}"
+    for what, is_stored in cluster.check():
+        assert is_stored, f"{what}: {cluster.wrong[:3]}"
     clusters.counts[fault] += 1
 
 

@@ -22,7 +22,7 @@ pytest.importorskip("psycopg")
 
 from database import Database, soon
 from interrupts import Interrupt, interrupted_apart
-from log_calls import asked, lines, says
+from log_calls import lines, requested, says
 from raising import raises
 from coniks.postgres import PostgresLog
 from coniks.provider import LogFailed, LogRefused, Overtaken
@@ -112,7 +112,7 @@ def test_closes(database: Database) -> None:
     log.append(0, b"zero")
     log.wait(0, 0)
     with ThreadPoolExecutor(8) as pool:
-        list(pool.map(asked, [log] * 8, ["SELECT pg_sleep(0.2)"] * 8))
+        list(pool.map(requested, [log] * 8, ["SELECT pg_sleep(0.2)"] * 8))
     assert len(log._pool._sessions) == 4, "close: four sessions are kept"
     reader = log.read(0)
     waits = threading.Thread(target=says, args=("close: a wait under way", LogFailed, lambda: other.wait(1, 60), "closed"))
@@ -157,7 +157,7 @@ def test_forks(database: Database) -> None:
     with PostgresLog.create(database.conninfo, "t") as log:
         log.append(0, b"zero")
         log.wait(0, 0)
-        sessions = [asked(log, "SELECT pg_backend_pid()", it) for it in ("_pool", "_listening")]
+        sessions = [requested(log, "SELECT pg_backend_pid()", it) for it in ("_pool", "_listening")]
         child = os.fork()
         if not child:
             status = 1
@@ -171,7 +171,9 @@ def test_forks(database: Database) -> None:
         assert os.waitpid(child, 0)[1] == 0, "fork: the child uses no session of its parent"
         assert [*log.read(0)] == [b"zero", b"one"], "fork: it opens the log"
         log.append(2, b"two")
-        assert [asked(log, "SELECT pg_backend_pid()", it) for it in ("_pool", "_listening")] == sessions, "fork: the parent's go on"
+        assert [
+            requested(log, "SELECT pg_backend_pid()", it) for it in ("_pool", "_listening")
+        ] == sessions, "fork: the parent's go on"
     database.execute("DROP TABLE t")
 
 

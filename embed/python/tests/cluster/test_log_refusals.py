@@ -18,7 +18,7 @@ import psycopg
 from database import USER, Database, soon
 from stand_ins import small_disk
 from raising import raises
-from log_calls import asked, changes, commits_once_waited_for, lines, lost, says
+from log_calls import changes, commits_once_waited_for, lines, lost, requested, says
 from coniks.postgres import PostgresLog
 from coniks.provider import LogFailed, LogRefused, Overtaken
 
@@ -70,7 +70,7 @@ def has_reloaded(database: Database, log: PostgresLog, setting: str, value: str 
     database.execute(f"ALTER SYSTEM SET {setting} = {value}" if value else f"ALTER SYSTEM RESET {setting}")
     database.execute("SELECT pg_reload_conf()")
     query = f"SELECT setting = {value and repr(value) or 'boot_val'} FROM pg_settings WHERE name = '{setting}'"
-    return soon(lambda: asked(log, query))
+    return soon(lambda: requested(log, query))
 
 
 def test_tables(database: Database) -> None:
@@ -170,7 +170,7 @@ def test_settings(database: Database) -> None:
             "client_min_messages",
         ]
         for pool in ("_pool", "_listening"):
-            found = [asked(other, f"SHOW {it}", pool) for it in shown]
+            found = [requested(other, f"SHOW {it}", pool) for it in shown]
             assert found == ["0", "0", "2s", "read committed", "warning"], f"settings: those of a session, {pool}: {found}"
     log.close()
     database.execute("DROP TABLE t")

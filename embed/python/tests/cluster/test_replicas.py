@@ -51,8 +51,10 @@ def test_following(pair: Pair) -> None:
     for epoch in (1, 2):
         own.commit(epoch, [Register(f"user-{epoch}", b"key")])
     assert soon(lambda: replica.latest() == own.latest()), "replica: it follows"
-    asked = [(name, epoch) for name in ("user-1", "user-2", "no") for epoch in (1, 2)]
-    assert [own.lookup(*it) for it in asked] == [replica.lookup(*it) for it in asked], "replica: the answers are the provider's"
+    requested = [(name, epoch) for name in ("user-1", "user-2", "no") for epoch in (1, 2)]
+    assert [own.lookup(*it) for it in requested] == [
+        replica.lookup(*it) for it in requested
+    ], "replica: the answers are the provider's"
     assert own.chain() == replica.chain() == [*entries(pair.log)], "replica: so is the chain"
     assert replica.chain(1) == own.chain()[1:] and audited(own.chain(), Salted(), False), "replica: from an epoch on"
     assert soon(lambda: replica.lag().lines == 0 and replica.lag().seconds < 2 and not replica.lag().error), "replica: no lag"
@@ -72,9 +74,9 @@ def test_promotion(pair: Pair) -> None:
     assert soon(lambda: replica.latest().epoch == 4), "promotion: the replica follows"
     with mock.patch.dict(log._sql, read=b"no query"):
         own.commit(5, [])
-        is_told = soon(lambda: replica.lag().lines == 2 and isinstance(replica.lag().error, LogFailed))
+        is_reported = soon(lambda: replica.lag().lines == 2 and isinstance(replica.lag().error, LogFailed))
         time.sleep(0.3)
-        assert is_told, "replica: a log that can't be read"
+        assert is_reported, "replica: a log that can't be read"
         assert replica.lag().seconds > 0.3 and replica.lookup("user-1").epoch == 4, "replica: the lag grows, and lookups go on"
         raises("replica: a promotion without the log", LogFailed, pair.lead)
     assert soon(lambda: replica.latest().epoch == 5), "replica: it follows again"
@@ -88,7 +90,7 @@ def test_promotion(pair: Pair) -> None:
     raises("promotion: the old provider", Overtaken, lambda: own.commit(7, [Register("other", b"key")]))
     raises("promotion: the old provider's next commit", RestartNeeded, lambda: own.commit(8, []))
     assert own.lookup("user-1").epoch == own.latest().epoch == 6, "promotion: the old provider's lookups go on"
-    assert signer.is_asked_once() and {*signer.asked()} == {4, 5, 6, 7}, "promotion: one body for each epoch"
+    assert signer.is_requested_once() and {*signer.requested()} == {4, 5, 6, 7}, "promotion: one body for each epoch"
     new.restart()
     assert new.latest().names == 2 and new.chain() == [*entries(log)], "promotion: a restart"
 
@@ -103,10 +105,10 @@ def test_pending(pair: Pair) -> None:
         raises("pending: a signer that fails", SignerFailed, pair.lead)
         # What is left of that promotion must not end the replica.
         gc.collect()
-        assert pair.replica.latest().epoch == 0 and signer.asked().keys() == {1}, "pending: the replica goes on"
+        assert pair.replica.latest().epoch == 0 and signer.requested().keys() == {1}, "pending: the replica goes on"
         new = pair.lead()
         assert new.pending is None and new.lookup("alice").entry == next(entries(pair.log)), "pending: it is installed"
-        assert signer.is_asked_once() and len([*pair.log.read(0)]) == 3, "pending: one body"
+        assert signer.is_requested_once() and len([*pair.log.read(0)]) == 3, "pending: one body"
         raises("pending: its number is spent", EpochNotLater, lambda: new.commit(1, []), latest=1)
 
     with mock.patch.object(pair.written, "append", take):

@@ -45,7 +45,7 @@ def test_rows_are_checked(program: str, database: Database) -> None:
     block = [it for it in page.partition("## ")[0].splitlines() if it.startswith("    ")]
     commands = "\n".join(block).replace("coniks_log", "checked").replace("./provider", program)
 
-    def told() -> Any:
+    def reported() -> Any:
         words = ["bash", "-c", f"set -o pipefail; database='{database.conninfo}'\n{commands}"]
         return json.loads(subprocess.run(words, stdout=subprocess.PIPE, stderr=subprocess.DEVNULL, check=False).stdout)
 
@@ -59,19 +59,19 @@ def test_rows_are_checked(program: str, database: Database) -> None:
             "ok": "replay",
             "position": 5,
         }
-        assert told() == wanted, "without a snapshot, whose table is missing"
+        assert reported() == wanted, "without a snapshot, whose table is missing"
         position = it.own.compact()
-        assert told() == {**wanted, "nodes": it.own.latest().nodes}, "with a snapshot"
+        assert reported() == {**wanted, "nodes": it.own.latest().nodes}, "with a snapshot"
         it.own.commit(3, [Register("carol \\ \n\t ö", b"key")])
         log.drop_before(position)
         latest = it.own.latest()
         wanted = {"epoch": 3, "link": latest.link.hex(), "names": 3, "nodes": latest.nodes, "ok": "replay", "position": 7}
-        assert told() == wanted, "once rows were dropped"
+        assert reported() == wanted, "once rows were dropped"
         database.execute("UPDATE checked SET line = convert_to(replace(convert_from(line, 'UTF8'), 'carol', 'clara'), 'UTF8')")
         [(before,)] = database.execute("SELECT count(*) FROM checked_snapshot")
         [(first,)] = database.execute("SELECT min(position) FROM checked")
         line = before + 1 + position - first
-        assert told() == {"line": line, "refused": {"fault": "ReplayDiffers"}}, "a row that is altered"
+        assert reported() == {"line": line, "refused": {"fault": "ReplayDiffers"}}, "a row that is altered"
 
 
 def test_table(database: Database) -> None:
@@ -256,9 +256,9 @@ def grow(it: Cluster, epochs: Iterable[int]) -> None:
 
 def is_same(it: Cluster, replica: Replica, first: int) -> bool:
     """Whether a replica has the latest epoch, the chain, and the same lookups from an epoch on."""
-    asked = [(name, epoch) for name in ("alice", "bob", "no") for epoch in range(first, it.own.latest().epoch + 1)]
+    requested = [(name, epoch) for name in ("alice", "bob", "no") for epoch in range(first, it.own.latest().epoch + 1)]
     is_there = soon(lambda: replica.latest().link == it.own.latest().link)
-    return is_there and replica.chain() == it.own.chain() and all(it.own.lookup(*of) == replica.lookup(*of) for of in asked)
+    return is_there and replica.chain() == it.own.chain() and all(it.own.lookup(*of) == replica.lookup(*of) for of in requested)
 
 
 @pytest.fixture
@@ -408,13 +408,13 @@ def test_absent(it: Cluster) -> None:
             return getattr(table, name)
 
         def compact(self, position: int, lines: Iterable[bytes]) -> None:
-            def told() -> Iterator[bytes]:
+            def reported() -> Iterator[bytes]:
                 for number, line in enumerate(lines):
                     if number == 2:
                         self._strike()  # type: ignore[operator]
                     yield line
 
-            table.compact(position, told())  # type: ignore[attr-defined]
+            table.compact(position, reported())  # type: ignore[attr-defined]
 
     def nothing() -> None:
         pass

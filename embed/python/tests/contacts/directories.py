@@ -40,7 +40,7 @@ class Directory(AbstractContextManager["Directory"]):
         self.lies: dict[str, Callable[[Mapping[str, str]], Optional[Reply]]] = {}
         self.headers: dict[str, str] = {}
         self.note = b""
-        self.asked: list[str] = []
+        self.requested: list[str] = []
         self.operations: list[dict[str, Any]] = []
         # The paths that want a token, and those with which one came.
         self.private, self.tokens = set[str](), list[str]()
@@ -77,7 +77,7 @@ class Directory(AbstractContextManager["Directory"]):
         return self.batches[-1][0]
 
     def send(self, handler: BaseHTTPRequestHandler, body: bytes) -> None:
-        self.asked.append(handler.path)
+        self.requested.append(handler.path)
         parts = urlsplit(handler.path)
         query = {name: it[0] for name, it in parse_qs(parts.query).items()}
         lie, token = self.lies.get(parts.path), handler.headers["Authorization"]

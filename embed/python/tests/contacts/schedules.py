@@ -249,7 +249,7 @@ class Schedule:
             it.follows = self.draw.randrange(2)
 
     def _drawn(self, number: int) -> dict[str, bytes]:
-        """The keys of an epoch: those that were asked for, or others."""
+        """The keys of an epoch: those that were requested, or others."""
         batch = dict[str, bytes]()
         if number == self.service.shown or self.draw.random() < 0.5:
             taken, self.service.waiting = self.service.waiting, []

@@ -51,7 +51,7 @@ def test_another_link(tmp_path: Path, capsys: pytest.CaptureFixture[str], direct
 def test_another_key_of_an_auditor(
     tmp_path: Path, capsys: pytest.CaptureFixture[str], directory: Directory, auditors: list[Auditing]
 ) -> None:
-    """An auditor that signs with another key than the one that was named is told as that."""
+    """An auditor that signs with another key than the one that was named is reported as that."""
     it = Person(tmp_path, capsys)
     it.begin(directory, auditors[0].pair, (auditors[1].url, str(Auditor("two", bytes(KEYS["three"].verify_key)))))
     status, lines = it.run("compare")
@@ -61,14 +61,14 @@ def test_another_key_of_an_auditor(
 def test_clocks_of_auditors(
     tmp_path: Path, capsys: pytest.CaptureFixture[str], directory: Directory, auditors: list[Auditing], clock: Clock
 ) -> None:
-    """A cosignature of a time more than five minutes ahead does not count, and is told."""
+    """A cosignature of a time more than five minutes ahead does not count, and is reported."""
     it = Person(tmp_path, capsys)
     it.begin(directory, auditors[0].pair, auditors[1].pair)
-    for ahead, is_told in [(300, False), (301, True), (4_102_444_800, True)]:
+    for ahead, is_reported in [(300, False), (301, True), (4_102_444_800, True)]:
         auditors[1].sign(2, clock() + ahead)
         status, lines = it.run("compare")
-        assert status == (3 if is_told else 0), lines
-        assert ("two has cosigned for a time that is to come" in lines[0]["text"]) is is_told
+        assert status == (3 if is_reported else 0), lines
+        assert ("two has cosigned for a time that is to come" in lines[0]["text"]) is is_reported
 
 
 def test_unconfirmed_epochs(
@@ -213,30 +213,30 @@ def test_carried(tmp_path: Path, capsys: pytest.CaptureFixture[str], directory: 
         text = text_of(POLICY, Head(2, link))
         directory.note = bytes(Note(text, tuple(cosign(name, KEYS[name], text, seconds) for name in names)))
 
-    def asked() -> bool:
-        count = sum(len(a.asked) for a in auditors)
+    def requested() -> bool:
+        count = sum(len(a.requested) for a in auditors)
         assert it.run("lookup", "alice")[0] == 0
-        return sum(len(a.asked) for a in auditors) > count
+        return sum(len(a.requested) for a in auditors) > count
 
     carried("one", "two", "three")
-    assert not asked()
+    assert not requested()
     for names, more in [(("one", "two"), {}), (("one", "one", "two"), {}), (("one", "two", "three"), {"seconds": NOW - 4 * 3600})]:
         carried(*names, **more)  # type: ignore[arg-type]
-        assert asked(), names
+        assert requested(), names
     carried("one", "two", "three", seconds=NOW + 3600)
-    assert asked(), "a time that is yet to come"
+    assert requested(), "a time that is yet to come"
     carried("one", "two", "three", link=bytes(32))
-    assert asked()
+    assert requested()
     carried("one", "two", "three")
     for epoch in (3, 4):
         directory.commit(epoch)
         for a in auditors:
             a.commit(epoch)
             a.sign(epoch)
-        assert asked() is (epoch == 4), "a note of two epochs ago, which a service that forks may carry"
+        assert requested() is (epoch == 4), "a note of two epochs ago, which a service that forks may carry"
     for note in [b"", b"!", b"x" * 3000, b"\xff", bytes(1 << 17)]:
         directory.note = note
-        assert asked(), "the auditors are asked, and nothing ends by it"
+        assert requested(), "the auditors are asked, and nothing ends by it"
 
 
 def test_begun_without_two_auditors(tmp_path: Path, capsys: pytest.CaptureFixture[str]) -> None:

@@ -43,7 +43,7 @@ def test_contacts(person: Person, directory: Directory) -> None:
     assert (status, lines[0]["change"]) == (0, "same") and "have not verified" not in lines[0]["text"]
     status, lines = person.run("lookup", "nobody")
     assert status == 4 and lines[0]["key"] is None and person.run("verify", "nobody", "k")[0] == 1
-    assert "/v1/lookup?name=alice" in directory.asked and set(person.stored()["seen"]) == {"alice"}
+    assert "/v1/lookup?name=alice" in directory.requested and set(person.stored()["seen"]) == {"alice"}
 
 
 def test_sentences(person: Person, capsys: pytest.CaptureFixture[str]) -> None:
@@ -113,7 +113,7 @@ def test_refused_after_it_was_stored(person: Person, directory: Directory) -> No
 
 
 def test_another_key_from_the_start(person: Person, directory: Directory) -> None:
-    """A directory that takes a registration, and then shows another key, is told."""
+    """A directory that takes a registration, and then shows another key, is reported."""
 
     def lie(_: Mapping[str, str]) -> Reply:
         directory.commit(3, dave=b"key of mallory")
@@ -176,7 +176,7 @@ HISTORIES: list[tuple[str, Callable[[Directory], Callable[[Mapping[str, str]], O
 def test_withheld_history(
     what: str, lie: Callable[[Directory], Callable[[Mapping[str, str]], Optional[Reply]]], person: Person, directory: Directory
 ) -> None:
-    """A key that was replaced is told and kept, whatever the service withholds of earlier epochs."""
+    """A key that was replaced is reported and kept, whatever the service withholds of earlier epochs."""
     person.run("register", "dave", "key one")
     directory.commit(4)
     directory.commit(5, dave=b"key of mallory")
@@ -211,7 +211,7 @@ def test_refused_for_a_period(person: Person, directory: Directory, clock: Clock
 
 
 def test_squatted(person: Person, directory: Directory) -> None:
-    """A name that someone else has registered is told with that key, and nothing is signed or sent."""
+    """A name that someone else has registered is reported with that key, and nothing is signed or sent."""
     status, lines = person.run("register", "alice", "key of mine")
     assert status == 1 and lines[0]["text"].startswith('"alice" is taken: it has the key "key of alice" (epoch 2)')
     assert not directory.operations and not person.stored()["own"]
@@ -263,7 +263,7 @@ BY_KEY = re.compile(r'"([^"]*)" \((epochs? [^),]*)')
 
 
 def test_refused_page(person: Person, directory: Directory, monkeypatch: pytest.MonkeyPatch) -> None:
-    """What a page of a history shows is told and kept, though the service refuses the next one."""
+    """What a page of a history shows is reported and kept, though the service refuses the next one."""
     monkeypatch.setattr(_own_names, "_SPAN", 1)
     person.run("register", "dave", "key one")
     record = directory.world.epochs[3].names[client_world.index("dave")][2]
@@ -297,12 +297,12 @@ CHANGES: list[tuple[str, Callable[[bytes], Optional[bytes]], int, str]] = [
 ]
 
 
-@pytest.mark.parametrize("what, change, status, told", CHANGES, ids=[it[0] for it in CHANGES])
+@pytest.mark.parametrize("what, change, status, reported", CHANGES, ids=[it[0] for it in CHANGES])
 def test_changes(
     what: str,
     change: Callable[[bytes], Optional[bytes]],
     status: int,
-    told: str,
+    reported: str,
     person: Person,
     directory: Directory,
     clock: Clock,
@@ -322,7 +322,7 @@ def test_changes(
     else:
         directory.commit(4, dave=value)
     found, lines = person.run("lookup", "dave")
-    assert (found, lines[0]["change"]) == (status, told) and ("l" if value else None) == lines[0]["key"]
+    assert (found, lines[0]["change"]) == (status, reported) and ("l" if value else None) == lines[0]["key"]
     assert convicted(person) == ["unvouched"] if status else not person.stored()["found"]
 
 
@@ -335,7 +335,7 @@ def test_changes_without_a_promise(tmp_path: Path, capsys: pytest.CaptureFixture
         assert (it.begin(directory), friend.begin(directory)) == (0, 0)
         assert it.run("register", "dave", "key one")[0] == 0 and friend.run("lookup", "dave")[0] == 0
         directory.commit(4, dave=b"key of mallory")
-        assert it.run("lookup", "dave")[0] == 1 and [kept["kind"] for kept in it.stored()["found"]] == ["changed"]
+        assert it.run("lookup", "dave")[0] == 1 and [saved["kind"] for saved in it.stored()["found"]] == ["changed"]
         assert is_alarm(it.run("watch"), 4)
         status, lines = friend.run("lookup", "dave")
         assert (status, lines[0]["change"]) == (1, "unvouched") and "did not sign the change: don't use it" in lines[0]["text"]
@@ -443,13 +443,13 @@ NAMES = ["", "a\nb", "a\x1b[2Jb", "a\x00b", "\udce4", "\ud800", "x" * 256, "x" *
 @pytest.mark.parametrize("name", NAMES, ids=range(len(NAMES)))
 def test_hostile_names(name: str, person: Person, directory: Directory, capsys: pytest.CaptureFixture[str]) -> None:
     """A name that is none is refused in one line before anything is asked."""
-    count = len(directory.asked)
+    count = len(directory.requested)
     for words in [["lookup", name], ["register", name, "k"], ["verify", name, "k"]]:
         with pytest.raises(SystemExit) as ended:
             contacts.main([words[0], "--state", str(person.state), *words[1:]])
         text = capsys.readouterr().err
         assert ended.value.code == 2 and len(text) < 1000 and text.isascii() and "\x1b" not in text
-    assert len(directory.asked) == count
+    assert len(directory.requested) == count
 
 
 SHOWN = [
@@ -501,7 +501,7 @@ def test_token(person: Person, directory: Directory) -> None:
     directory.commit(4)
     directory.commit(5)
     for words in [["watch"], ["lookup", "alice"], ["compare"], ["verify", "dave", "key one"]]:
-        assert person.run(*words)[0] == 0 and "/v1/history" in "".join(directory.asked)
+        assert person.run(*words)[0] == 0 and "/v1/history" in "".join(directory.requested)
     assert directory.tokens == ["/v1/operations"]
     directory.commit(6)
     directory.commit(7)
@@ -518,11 +518,11 @@ def test_token(person: Person, directory: Directory) -> None:
 @pytest.mark.parametrize("host", ["0.0.0.0", "keys.example.com", "localhost.example.com", "127.0.0.1.example.com", "[::2]", "[::]"])
 def test_token_without_tls(host: str, person: Person, directory: Directory) -> None:
     """A token goes over http to this host alone: neither `begin` nor `set` takes another one."""
-    url, kept = directory.url.replace("127.0.0.1", host), person.state.read_bytes()
+    url, saved = directory.url.replace("127.0.0.1", host), person.state.read_bytes()
     empty, other = person.room / "empty", person.room / "other"
     empty.write_text("")
     status, lines = person.run("set", "--service", url)
-    assert status == 3 and "no TLS" in lines[0]["text"] and person.state.read_bytes() == kept
+    assert status == 3 and "no TLS" in lines[0]["text"] and person.state.read_bytes() == saved
     words = ["begin", "--service", url, "--policy", str(person.room / "policy"), "--without-auditors", "--state", str(other)]
     status, lines = person.run(*words, "--token", str(person.room / "token"))
     assert status == 3 and "no TLS" in lines[0]["text"] and not other.exists()
@@ -553,7 +553,7 @@ def test_begun_at_a_wrong_place(tmp_path: Path, capsys: pytest.CaptureFixture[st
 
 
 def test_unexpected(person: Person, monkeypatch: pytest.MonkeyPatch) -> None:
-    """An error of the program is told in one line, and is no alarm."""
+    """An error of the program is reported in one line, and is no alarm."""
 
     def raising(*_: object) -> None:
         raise AssertionError("a fault\x1b[2J")
@@ -626,19 +626,19 @@ def test_state_of_another_directory(person: Person, directory: Directory, tmp_pa
         {**members, "auditors": [["http://127.0.0.1:1", "x"]]},
         {name: it for name, it in members.items() if name != "chain"},
     ]
-    count = len(directory.asked)
+    count = len(directory.requested)
     for it in others:
         StateFile(person.state).write(it)
         status, lines = person.run("watch")
         assert status == 3 and "was changed" in lines[0]["text"]
-    assert len(directory.asked) == count
+    assert len(directory.requested) == count
     StateFile(person.state).write(members)
     assert person.run("watch")[0] == 0
 
 
 def test_damaged_state(person: Person, directory: Directory) -> None:
     """A state that was cut or changed is refused as a whole, and left as it is."""
-    whole, count = person.state.read_bytes(), len(directory.asked)
+    whole, count = person.state.read_bytes(), len(directory.requested)
     cuts = [whole[:it] for it in [0, 1, 15, 16, 79, 80, 81, len(whole) // 2, len(whole) - 1]]
     flips = [whole[:it] + bytes([whole[it] ^ 1]) + whole[it + 1 :] for it in range(0, len(whole), 37)]
     for text in [*cuts, *flips, whole + b"x", b"\xff" * 200]:
@@ -648,19 +648,19 @@ def test_damaged_state(person: Person, directory: Directory) -> None:
     person.state.unlink()
     assert "coniks-client begin" in person.run("watch")[1][0]["text"]
     person.state.mkdir()
-    assert person.run("watch")[0] == 3 and len(directory.asked) == count
+    assert person.run("watch")[0] == 3 and len(directory.requested) == count
 
 
 def test_other_versions(person: Person, directory: Directory) -> None:
     """A state that another version of coniks-client wrote isn't taken for a changed one, and is left as it is."""
-    whole, count = person.state.read_bytes(), len(directory.asked)
+    whole, count = person.state.read_bytes(), len(directory.requested)
     assert whole.startswith(b"coniks-client 3 ")
     for version in (b"1", b"2", b"4"):
         text = whole.replace(b" 3 ", b" %s " % version, 1)
         person.state.write_bytes(text)
         status, [line] = person.run("watch")
         assert status == 3 and "of another version" in line["text"] and "changed" not in line["text"]
-        assert person.state.read_bytes() == text and len(directory.asked) == count
+        assert person.state.read_bytes() == text and len(directory.requested) == count
     person.state.write_bytes(whole)
     assert person.run("lookup", "alice")[0] == 0
 
@@ -789,7 +789,7 @@ def test_full_disk(person: Person, monkeypatch: pytest.MonkeyPatch) -> None:
 
 
 def test_missing_epochs(person: Person, directory: Directory) -> None:
-    """Epochs without a proof are told, and looked at again."""
+    """Epochs without a proof are reported, and looked at again."""
     person.run("register", "dave", "key one")
     directory.commit(4)
     directory.commit(5)
@@ -803,8 +803,8 @@ def test_missing_epochs(person: Person, directory: Directory) -> None:
 
 
 def test_lost_epochs(tmp_path: Path, capsys: pytest.CaptureFixture[str], clock: Clock) -> None:
-    """Epochs whose proofs are no longer promised are told by the sentence of docs/STORED.md."""
-    text = client_world.policy_text(kept=7200)
+    """Epochs whose proofs are no longer promised are reported by the sentence of docs/STORED.md."""
+    text = client_world.policy_text(stored=7200)
     it = Person(tmp_path, capsys, text)
     with Directory(policy=text) as directory:
         assert it.begin(directory) == 0
@@ -821,8 +821,8 @@ def test_lost_epochs(tmp_path: Path, capsys: pytest.CaptureFixture[str], clock: 
 
 
 def test_dropped_epochs(tmp_path: Path, capsys: pytest.CaptureFixture[str], clock: Clock) -> None:
-    """Lost epochs keep no later one once the auditors confirm it, and are told by the same sentence ever after."""
-    text = client_world.policy_text(kept=7200)
+    """Lost epochs keep no later one once the auditors confirm it, and are reported by the same sentence ever after."""
+    text = client_world.policy_text(stored=7200)
     it, policy = Person(tmp_path, capsys, text), Policy.read(text.encode())
     with Directory(policy=text) as directory:
 

@@ -1,4 +1,4 @@
-"""`coniks-client` over the marks, the alarms and the reports of the proved core: what is confirmed, what is dropped, and what is told until
+"""`coniks-client` over the marks, the alarms and the reports of the proved core: what is confirmed, what is dropped, and what is reported until
 its owner takes note of it."""
 
 from __future__ import annotations
@@ -25,8 +25,8 @@ PLACES = {name: place for place, name in enumerate(sorted(AUDITORS, key=lambda i
 
 
 @dataclass(frozen=True)
-class Kept:
-    """What a state of a client has, by the table of docs/STORED.md: kept epochs, alarms, the digest of a trust document, and marks."""
+class StoredEntry:
+    """What a state of a client has, by the table of docs/STORED.md: stored epochs, alarms, the digest of a trust document, and marks."""
 
     epochs: list[int]
     alarms: list[tuple[int, int]]
@@ -34,7 +34,7 @@ class Kept:
     marks: list[int]
 
 
-def kept_in(state: str) -> Kept:
+def stored_in(state: str) -> StoredEntry:
     whole = bytes.fromhex(state)
 
     def number(at: int, size: int) -> int:
@@ -47,15 +47,15 @@ def kept_in(state: str) -> Kept:
     at += 4 + len(alarms) * 9
     marks = [number(at + 36 + it * 8, 8) for it in range(number(at + 32, 4))]
     assert whole[0] == 3 and hashlib.sha256(whole[:-32]).digest() == whole[-32:]
-    return Kept(epochs, alarms, whole[at : at + 32].hex(), marks)
+    return StoredEntry(epochs, alarms, whole[at : at + 32].hex(), marks)
 
 
-def chain(person: Person) -> Kept:
-    return kept_in(person.stored()["chain"])
+def chain(person: Person) -> StoredEntry:
+    return stored_in(person.stored()["chain"])
 
 
-def own(person: Person, name: str = "dave") -> Kept:
-    return kept_in(person.stored()["own"][name]["client"])
+def own(person: Person, name: str = "dave") -> StoredEntry:
+    return stored_in(person.stored()["own"][name]["client"])
 
 
 @pytest.fixture
@@ -188,7 +188,7 @@ def test_too_few_drop_nothing(room: Room) -> None:
 
 
 def test_behind_what_was_dropped(four: Room) -> None:
-    """An auditor that was silent, and comes back with the head of an epoch that was dropped, is told as one that is behind."""
+    """An auditor that was silent, and comes back with the head of an epoch that was dropped, is reported as one that is behind."""
     four.directory.commit(3)
     follow(four, one=3, two=3, three=3)
     four.auditors[3].note = b""
@@ -200,7 +200,7 @@ def test_behind_what_was_dropped(four: Room) -> None:
 
 
 def test_reports(room: Room) -> None:
-    """What the core reports of a name is told: good once a quorum confirms the latest epoch, else unconfirmed."""
+    """What the core reports of a name is reported: good once a quorum confirms the latest epoch, else unconfirmed."""
     room.audited()
     status, lines = room.person.run("register", "dave", "key one")
     assert status == 0 and (lines[0]["report"], lines[-1]["agreed"]) == ("unconfirmed", 2)
@@ -233,7 +233,7 @@ def alarmed(room: Room) -> None:
 
 
 def test_alarm_until_noted(room: Room) -> None:
-    """An epoch of another key is told at each watch, also once it was dropped, until its owner takes note of it."""
+    """An epoch of another key is reported at each watch, also once it was dropped, until its owner takes note of it."""
     alarmed(room)
     sentence = '"dave" did not have your key (epoch 4): tell all who use it'
     assert [line["epochs"] for line in room.person.run("watch")[1] if line["status"] == 1 and "epochs" in line] == [[4]]
@@ -253,7 +253,7 @@ def test_alarm_until_noted(room: Room) -> None:
 
 
 def test_all_alarms(room: Room) -> None:
-    """Each epoch of another key is told, not only the first one, and is noted with the others."""
+    """Each epoch of another key is reported, not only the first one, and is noted with the others."""
     room.audited()
     room.changed()
     record = room.directory.world.epochs[5].names[client_world.index("dave")][2]
@@ -267,7 +267,7 @@ def test_all_alarms(room: Room) -> None:
 
 
 def test_alarm_without_service(room: Room) -> None:
-    """An alarm is told whatever the service refuses."""
+    """An alarm is reported whatever the service refuses."""
     alarmed(room)
     room.person.run("watch")
     room.lie("/v1/lookup", b"", 503)
@@ -308,7 +308,7 @@ def test_note_of_an_end(room: Room, capsys: pytest.CaptureFixture[str], monkeypa
 
 
 def test_noted_lost(room: Room) -> None:
-    """What can no longer be verified is told until its owner takes note of it, and not again after that."""
+    """What can no longer be verified is reported until its owner takes note of it, and not again after that."""
     room.lost()
     for status in (3, 0, 0):
         ended, lines = room.person.run("watch")

@@ -23,7 +23,7 @@ SILENT = {"AUDITED": 0, "INTERRUPTED": 130, "UNREAD": 3}
 
 
 @pytest.fixture
-def told(monkeypatch: pytest.MonkeyPatch) -> list[tuple[str, dict[str, Any]]]:
+def reported(monkeypatch: pytest.MonkeyPatch) -> list[tuple[str, dict[str, Any]]]:
     """The names of the verdicts that a run tells, with their values."""
     found, call = list[tuple[str, dict[str, Any]]](), Telling.__call__
 
@@ -44,21 +44,21 @@ def placed(room: Room, value: Any) -> Any:
 
 
 @pytest.mark.parametrize("name", RUNS)
-def test_verdict(name: str, room: Room, told: list[tuple[str, dict[str, Any]]], capsys: pytest.CaptureFixture[str]) -> None:
-    """A verdict is told with its status, sentence and members, in JSON and in words, without colours. The run ends with its status."""
+def test_verdict(name: str, room: Room, reported: list[tuple[str, dict[str, Any]]], capsys: pytest.CaptureFixture[str]) -> None:
+    """A verdict is reported with its status, sentence and members, in JSON and in words, without colours. The run ends with its status."""
     run = RUNS[name]
     run.prepare(room)
-    told.clear()
+    reported.clear()
     given = [placed(room, it) for it in run.words]
     status, lines = room.person.run(given[0], *given[1:])
-    assert len(told) == len(lines)
+    assert len(reported) == len(lines)
     members = {it: placed(room, value) for it, value in run.members.items()}
     wanted = {"text": placed(room, run.text), "status": run.status if run.line is None else run.line, **members}
     places = [at for at, it in enumerate(lines) if it == wanted]
-    assert places and [told[it][0] for it in places] == [name] * len(places), (wanted, lines)
+    assert places and [reported[it][0] for it in places] == [name] * len(places), (wanted, lines)
     assert status == run.status, lines
     tell = Telling(False)
-    tell(Verdict[name], **told[places[0]][1])
+    tell(Verdict[name], **reported[places[0]][1])
     assert capsys.readouterr().out == f"coniks-client: {wanted['text']}\n" and wanted["text"].isprintable()
     assert tell.status == run.status
 
@@ -93,7 +93,7 @@ def name_of(part: ast.stmt) -> str:
     return part.name if isinstance(part, (ast.FunctionDef, ast.ClassDef)) else ""
 
 
-def told_elsewhere(text: str) -> list[str]:
+def reported_elsewhere(text: str) -> list[str]:
     """The sentences, the statuses and the colours in a module's text."""
     tree = ast.parse(text)
     parts = [
@@ -118,7 +118,7 @@ def told_elsewhere(text: str) -> list[str]:
 def test_no_other_place(module: str) -> None:
     """No other module has a sentence, a status or a colour."""
     text = (SOURCES / f"{module}.py").read_text("utf-8")
-    assert told_elsewhere(text) == [] and len(text) > 500
+    assert reported_elsewhere(text) == [] and len(text) > 500
     statuses = {"ALARM", "UNVERIFIED", "ABSENT", "STOPPED"}
     assert not statuses & {*re.findall(r"\w+", "".join(re.findall(r"^from \._telling import (.*)$", text, re.M)))}
 
@@ -128,4 +128,4 @@ def test_no_other_place(module: str) -> None:
 )
 def test_other_places(line: str) -> None:
     """What the test above looks for is found."""
-    assert told_elsewhere(f'"""A text of a module."""\ndef call():\n    """Of a function."""\n    {line}\n')
+    assert reported_elsewhere(f'"""A text of a module."""\ndef call():\n    """Of a function."""\n    {line}\n')

@@ -22,7 +22,7 @@ NOBODY, FEW = ", which no auditor confirms", ", which too few of your auditors c
 DAVE = Place(POLICY.digest, "dave")
 RECORD = first(DAVE, KEYS["one"], b"k")
 # A directory that promises proofs for two periods, and then an epoch can no longer be verified.
-LIMITED = client_world.policy_text(kept=7200)
+LIMITED = client_world.policy_text(stored=7200)
 
 
 @dataclass

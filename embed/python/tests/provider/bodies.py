@@ -56,8 +56,8 @@ class Bench:
     def open(self, **more: Any) -> Guard:
         return Guard(self.path, self.signer, **more)
 
-    def sign(self, asked: bytes) -> bytes:
-        self.entries.append(asked + self.guard(asked))
+    def sign(self, requested: bytes) -> bytes:
+        self.entries.append(requested + self.guard(requested))
         return self.last
 
     def used(self) -> list[bytes]:

@@ -8,8 +8,8 @@ import time
 from pathlib import Path
 
 
-def main(told: str) -> int:
-    for line in Path(told).read_text().splitlines():
+def main(reported: str) -> int:
+    for line in Path(reported).read_text().splitlines():
         if not sys.stdin.readline():
             return 0
         if line.startswith("end "):

@@ -32,16 +32,16 @@ class Asker:
 
     def step(self) -> None:
         with suppress(BodyRefused, TimeoutError):
-            entry, asked, turn = self.guard.signed() or b"", self.guard.asked(), self.chance.randrange(6)
+            entry, requested, turn = self.guard.signed() or b"", self.guard.asked(), self.chance.randrange(6)
             # A process that was killed may not have listed it.
             self._give(entry[:145])
             epoch = int.from_bytes(entry[1:9], "big") + self.chance.randrange(1, 4)
             mine = after(entry, epoch, b"%d" % self.chance.randrange(1 << 30))
-            if asked and turn < 2:
+            if requested and turn < 2:
                 with suppress(module.BodySigned):
-                    self.guard.abandon(asked)
-                    append(self.room / "abandoned", asked.hex())
-            self._give(asked if asked and turn < 5 else mine)
+                    self.guard.abandon(requested)
+                    append(self.room / "abandoned", requested.hex())
+            self._give(requested if requested and turn < 5 else mine)
 
     def _give(self, body: bytes) -> None:
         append(self.room / "given", (body + self.guard(body)).hex())

@@ -26,16 +26,16 @@ def main(program: str, names: int = 100_000, lookups: int = 20_000) -> int:
                     made = [Register(f"user-{it}", KEY) for it in range(first, min(names, first + BATCH))]
                     provider.commit(epoch, made)
                 tell("commits", names, "names", time.monotonic() - start)
-                asked = [f"user-{chance.randrange(names)}" for _ in range(lookups)]
+                requested = [f"user-{chance.randrange(names)}" for _ in range(lookups)]
                 calls: list[tuple[str, Callable[[], Sequence[object]]]] = [
-                    ("lookup", lambda: [provider.lookup(it) for it in asked]),
-                    ("lookups", lambda: provider.lookups(asked)),
+                    ("lookup", lambda: [provider.lookup(it) for it in requested]),
+                    ("lookups", lambda: provider.lookups(requested)),
                 ]
                 for what, look in calls:
                     start, user = time.monotonic(), resource.getrusage(resource.RUSAGE_SELF).ru_utime
                     found = look()
                     took, used = time.monotonic() - start, resource.getrusage(resource.RUSAGE_SELF).ru_utime - user
-                    assert [it.name for it in found if isinstance(it, Lookup)] == asked
+                    assert [it.name for it in found if isinstance(it, Lookup)] == requested
                     tell(what, lookups, "lookups", took, f", of which Python's own {used:.2f} s")
             start = time.monotonic()
             with opened(program, log, signer) as provider:

@@ -24,7 +24,7 @@ from stored import joined, parted
 SECONDS = 60
 
 
-def told(folder: Path, kind: str) -> Optional[str]:
+def reported(folder: Path, kind: str) -> Optional[str]:
     """What a file tells at a line. The file is taken, unless it says how long to wait."""
     if (folder / f"{os.getpid()} {kind} waits").exists():
         return "waits"
@@ -55,7 +55,7 @@ def main(folder: Path, program: str) -> int:
         for line in sys.stdin.buffer:
             kind = json.loads(line)["cmd"]
             note(folder, kind)
-            what = told(folder, kind)
+            what = reported(folder, kind)
             if what == "ends":
                 real.kill()
                 return 1

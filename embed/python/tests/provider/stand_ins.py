@@ -159,15 +159,15 @@ class Signer:
     def verify(self, body: bytes, signature: bytes) -> bool:
         return self.keys.verify(body, signature)
 
-    def asked(self) -> dict[int, set[bytes]]:
+    def requested(self) -> dict[int, set[bytes]]:
         """The bodies asked for, by their epochs."""
         bodies: dict[int, set[bytes]] = {}
         for it in map(bytes.fromhex, lines(self.file)):
             bodies.setdefault(int.from_bytes(it[1:9], "big"), set()).add(it)
         return bodies
 
-    def is_asked_once(self) -> bool:
-        return all(len(it) == 1 for it in self.asked().values())
+    def is_requested_once(self) -> bool:
+        return all(len(it) == 1 for it in self.requested().values())
 
 
 def guarded(signer: Signer, name: str = "guard", **more: Any) -> Guard:

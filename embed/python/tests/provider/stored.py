@@ -10,11 +10,11 @@ _STORE = b',"store":'
 
 def parted(line: bytes) -> tuple[dict[str, Any], bytes]:
     """What a reply says without the line for the log, and that line, no byte if there is none."""
-    said, _, store = line.rstrip(b"\n").partition(_STORE)
-    return json.loads(said + b"}" if store else said), store[:-1]
+    printed, _, store = line.rstrip(b"\n").partition(_STORE)
+    return json.loads(printed + b"}" if store else printed), store[:-1]
 
 
 def joined(answer: dict[str, Any], store: bytes) -> bytes:
     """The reply."""
-    said = json.dumps(answer).encode()
-    return (said[:-1] + _STORE + store + b"}" if store else said) + b"\n"
+    printed = json.dumps(answer).encode()
+    return (printed[:-1] + _STORE + store + b"}" if store else printed) + b"\n"

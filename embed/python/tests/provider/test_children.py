@@ -69,13 +69,13 @@ class Stage:
         """Whether both children run and have the same, by the proofs of all names at the latest epoch."""
         own = self.own
         names = ["first", "nobody", *(f"user-{it}" for it in range(10))]
-        told = own._host.known.children.answers([lookup_line(name, index(name), own.latest().epoch) for name in names])
-        return len(own.pids) == 2 and len(told) == len(names)
+        reported = own._host.known.children.answers([lookup_line(name, index(name), own.latest().epoch) for name in names])
+        return len(own.pids) == 2 and len(reported) == len(names)
 
-    def is_asked_once(self) -> bool:
+    def is_requested_once(self) -> bool:
         """Whether the signer was asked once for each body."""
-        asked = lines(self.signer.file)
-        return len(asked) == len({*asked}) and self.signer.is_asked_once()
+        requested = lines(self.signer.file)
+        return len(requested) == len({*requested}) and self.signer.is_requested_once()
 
     def close(self) -> None:
         self.own.close()
@@ -140,7 +140,7 @@ def test_lookup(program: str, child: int, kind: str) -> None:
         [made] = over
         assert isinstance(made, Epoch) and it.own.lookup("user-2").entry == made.entry, "then it is, and is shown"
         assert it.seen(it.own.pids[0]).count(kind) == it.seen(it.own.pids[1]).count(kind) == 1, "each child has taken the line"
-        assert it.is_alike() and it.is_asked_once() and audited(entries(it.log), it.signer.keys, False)
+        assert it.is_alike() and it.is_requested_once() and audited(entries(it.log), it.signer.keys, False)
 
 
 def test_no_way_back(program: str) -> None:
@@ -178,7 +178,7 @@ def test_end(program: str, child: int, what: str, kind: str) -> None:
         assert soon(lambda: len(it.own.pids) == 2), "the place is filled"
         assert it.own.lookup("user-3").entry == again.entry and it.is_alike(), "by one that has the same"
         it.commit(4)
-        assert it.is_alike() and it.is_asked_once() and it.own.pending is None
+        assert it.is_alike() and it.is_requested_once() and it.own.pending is None
         assert audited(entries(it.log), it.signer.keys, False)
 
 
@@ -193,7 +193,7 @@ def test_both_end(program: str, kind: str) -> None:
         assert bool(it.own.pending) == (kind == "install"), "what is pending is"
         made = it.own.retry() if it.own.pending else it.commit(2)
         assert it.own.lookup("user-2").entry == made.entry and it.is_alike()
-        assert it.signer.is_asked_once() and audited(entries(it.log), it.signer.keys, False)
+        assert it.signer.is_requested_once() and audited(entries(it.log), it.signer.keys, False)
 
 
 @pytest.mark.parametrize("child", [0, 1])
@@ -212,7 +212,7 @@ def test_end_at_lookup(program: str, child: int) -> None:
         thread.join(SECONDS)
         looking.join(SECONDS)
         assert isinstance(over[0], Epoch) and found[0].epoch in (1, 2), (over, found)  # type: ignore[attr-defined]
-        assert soon(lambda: len(it.own.pids) == 2) and it.is_alike() and it.is_asked_once()
+        assert soon(lambda: len(it.own.pids) == 2) and it.is_alike() and it.is_requested_once()
 
 
 def test_kill_while_idle(program: str) -> None:
@@ -251,7 +251,7 @@ def test_differ(program: str, child: int, kind: str) -> None:
         it.own.restart()
         assert it.own.pending is None and it.own.latest().epoch == 1 + (kind == "install")
         it.commit(4)
-        assert it.is_alike() and it.signer.is_asked_once() and audited(entries(it.log), it.signer.keys, False)
+        assert it.is_alike() and it.signer.is_requested_once() and audited(entries(it.log), it.signer.keys, False)
 
 
 def test_differ_in_lookups(program: str) -> None:
@@ -357,7 +357,7 @@ def test_no_line_for_the_log(program: str, kind: str, what: str) -> None:
         added = [*it.file.read(0)][len(before) :]
         assert len(added) == (kind == "install") and it.own.lookup("first").entry == it.first.entry, "the log has nothing of it"
         made = it.own.retry() if it.own.pending else it.commit(2)
-        assert it.own.lookup("user-2").entry == made.entry and it.is_alike() and it.is_asked_once() == (kind == "prepare")
+        assert it.own.lookup("user-2").entry == made.entry and it.is_alike() and it.is_requested_once() == (kind == "prepare")
 
 
 def test_log_refuses(program: str) -> None:
@@ -369,7 +369,7 @@ def test_log_refuses(program: str) -> None:
             raises("a commit", LogRefused, lambda: it.commit(2))
             it.log.before = lambda line: None
             assert bool(it.own.pending) == bool(count) and it.own.lookup("first").epoch == 1
-        assert it.own.retry().epoch == 2 and it.is_alike() and it.is_asked_once()
+        assert it.own.retry().epoch == 2 and it.is_alike() and it.is_requested_once()
         assert it.seen(first) == it.seen(second) == ["prepare", "withdraw", "prepare", "install"], "each line once"
 
 
@@ -494,9 +494,9 @@ def test_snapshot(program: str) -> None:
             elif how == "a restart":
                 it.own.restart()
             assert len({*it.own.pids}) == 2 and seen(it.own, epochs[2:]) == before and it.own.chain() == chain, how
-            asked = [lookup_line("user-1-0", index("user-1-0"), epoch) for epoch in (4, 9)]
-            told = it.own._host.known.children.answers(asked)
-            assert told[0] == b'{"fault":"UnknownEpoch"}' and b'"ok":"lookup"' in told[1], how
+            requested = [lookup_line("user-1-0", index("user-1-0"), epoch) for epoch in (4, 9)]
+            reported = it.own._host.known.children.answers(requested)
+            assert reported[0] == b'{"fault":"UnknownEpoch"}' and b'"ok":"lookup"' in reported[1], how
         it.own.commit(14, [Change("user-1-0", b"last")])
         assert shown(it.own.lookup("user-1-0")) == b"last"
 
@@ -522,7 +522,7 @@ def test_end_while_compacting(program: str, kind: str, child: int) -> None:
         with suppress(FileNotFoundError):
             (it.room / f"{it.own.pids[0]} {kind} ends").unlink()
         it.own.compact()
-        assert it.is_alike() and it.is_asked_once() and audited(entries(it.file), it.signer.keys, False)
+        assert it.is_alike() and it.is_requested_once() and audited(entries(it.file), it.signer.keys, False)
 
 
 def test_replica(program: str, room: str) -> None:

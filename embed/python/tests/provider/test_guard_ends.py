@@ -49,7 +49,7 @@ class Disk:
     after a rename of what wasn't synced. It syncs nothing itself. One of the calls fails, before or after it is made."""
 
     def __init__(self, path: Path) -> None:
-        self.path, self.kept = path, path.read_text()
+        self.path, self.stored = path, path.read_text()
         self._synced: dict[int, str] = {}
         self._left, self._is_after, self._error = 0, False, cast(Error, Stop)
 
@@ -58,7 +58,7 @@ class Disk:
         if not stat.S_ISDIR(found.st_mode):
             self._synced[found.st_ino] = Path(f"/proc/self/fd/{file}").read_text()
         elif self.path.exists():
-            self.kept = self._left_of(self.path)
+            self.stored = self._left_of(self.path)
 
     def _left_of(self, path: Path) -> str:
         return self._synced.get(path.stat().st_ino, "")
@@ -72,7 +72,7 @@ class Disk:
             if name == "fsync":
                 real = self._sync
             if name == "replace" and self._left_of(Path(arguments[0])) != Path(arguments[0]).read_text():
-                self.kept = ""
+                self.stored = ""
             returned = real(*arguments)
         except OSError:
             if self._left:
@@ -110,7 +110,7 @@ class Calls:
 def stopped(bench: Bench, disk: Disk, mine: bytes, number: int, is_after: bool, error: Error) -> tuple[bool, list[str]]:
     """Asks for a body, stops the guard at a call of the disk, and asks again. Returns whether it was stopped, and what is wrong."""
     wrong, unsafe, other = list[str](), list[bytes](), after(bench.last, 0, b"other")
-    bench.signer.before = lambda: None if f"\nasked {mine.hex()}\n" in disk.kept else unsafe.append(mine)
+    bench.signer.before = lambda: None if f"\nasked {mine.hex()}\n" in disk.stored else unsafe.append(mine)
     raised: Optional[BaseException] = None
     with disk.failing(number, is_after, error):
         try:
@@ -122,7 +122,7 @@ def stopped(bench: Bench, disk: Disk, mine: bytes, number: int, is_after: bool, 
         wrong.append(f"call {number}: raised {raised!r}")
     if number % 2:
         # The machine fails: what was not synced is lost.
-        bench.path.write_text(disk.kept)
+        bench.path.write_text(disk.stored)
     with disk.failing():
         if mine in bench.used():
             try:
@@ -132,7 +132,7 @@ def stopped(bench: Bench, disk: Disk, mine: bytes, number: int, is_after: bool, 
                 pass
         if raised:
             bench.sign(mine)
-    if unsafe or f"\nsigned {bench.last.hex()}\n" not in disk.kept:
+    if unsafe or f"\nsigned {bench.last.hex()}\n" not in disk.stored:
         wrong.append(f"call {number}: the record isn't durable")
     return has_failed, wrong
 
@@ -154,8 +154,8 @@ def test_steps(name: str, is_after: bool) -> None:
         while has_failed:
             number += 1
             mine = after(bench.last, 0, b"%d" % number)
-            has_failed, said = stopped(bench, disk, mine, number, is_after, ERRORS[name])
-            wrong += said
+            has_failed, printed = stopped(bench, disk, mine, number, is_after, ERRORS[name])
+            wrong += printed
         assert not wrong and number > 15, (number, wrong[:3])
         assert is_chain(bench.entries) and bench.guard.signed() == bench.last
 
@@ -174,7 +174,7 @@ def test_abandoned(name: str) -> None:
             has_failed = disk.has_failed()
             with disk.failing():
                 bench.open().abandon(mine)
-            if f"\nabandoned {mine.hex()}\n" not in disk.kept:
+            if f"\nabandoned {mine.hex()}\n" not in disk.stored:
                 wrong.append(f"call {number}")
         assert not wrong and number > 5, (number, wrong[:3])
 
@@ -273,9 +273,9 @@ def test_threads(seconds: float = 2, patience: float = 60) -> None:
 def one_kill(chance: random.Random, room: Path, kind: str) -> str:
     """Starts two processes over the record, and kills both at random moments. Returns what is wrong."""
     words = [sys.executable, str(HERE / "guard_ends.py"), str(room), kind]
-    with open(room / "said", "ab") as said, ExitStack() as stack:
+    with open(room / "said", "ab") as printed, ExitStack() as stack:
         processes = [
-            stack.enter_context(subprocess.Popen([*words, str(chance.randrange(1 << 30))], stdout=subprocess.PIPE, stderr=said))
+            stack.enter_context(subprocess.Popen([*words, str(chance.randrange(1 << 30))], stdout=subprocess.PIPE, stderr=printed))
             for _ in range(2)
         ]
         for it in processes:
@@ -297,8 +297,8 @@ def test_kills(pytestconfig: pytest.Config, say: Callable[[str], None], seed: in
         with tempfile.TemporaryDirectory() as folder:
             room, bench = Path(folder), Bench(folder, 1, KINDS[kind]())
             for number in range(done, min(count, done + KILLS_OF_ROOM)):
-                said = one_kill(chance, room, kind)
-                assert not said, f"kill {number}, {kind}: both ran until they were killed: {said}"
+                printed = one_kill(chance, room, kind)
+                assert not printed, f"kill {number}, {kind}: both ran until they were killed: {printed}"
                 wrong = what_is_wrong(room, bench.signer, bench.open())
                 # Both may have been killed before their first call.
                 assert wrong in ("", NOTHING), f"kill {number}, {kind}: one chain: {wrong}"

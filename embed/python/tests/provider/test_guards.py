@@ -109,10 +109,10 @@ def test_nonce(room: str) -> None:
     other = after(bench.last, nonce=bytes(32))
     refused("guard: another nonce in version 1", BodyRefused, bench, lambda: bench.guard(other), "nonce")
     # A copy of the record, which is put back later.
-    kept = bench.text()
+    stored = bench.text()
     bench.sign(after(bench.last))
     bench.sign(after(bench.last))
-    bench.path.write_text(kept)
+    bench.path.write_text(stored)
     refused("guard: a record of an old backup", BodyRefused, bench, lambda: bench.guard(after(bench.last)), "the record is")
 
 
@@ -294,8 +294,8 @@ def test_texts(room: str) -> None:
         assert VerifyKey(bytes.fromhex(key)).verify(signed[:145], signed[145:]), "record: its signature is valid"
     refused("record: its abandoned body", BodyAbandoned, bench, lambda: bench.guard(abandoned))
     assert bench.text() == text, "record: the text is written as it was read"
-    told = bench.guard(asked)
-    wanted = f"coniks-guard 1\nsigned {(asked + told).hex()}\nabandoned {abandoned.hex()}\n"
+    reported = bench.guard(asked)
+    wanted = f"coniks-guard 1\nsigned {(asked + reported).hex()}\nabandoned {abandoned.hex()}\n"
     assert bench.text() == wanted, "record: its open body is signed, and the abandoned one after the same entry stays"
     passed, wrong = list[str](), list[str]()
     calls: list[Call] = [bench.open, bench.guard.signed, bench.guard.asked, lambda: bench.guard(asked)]
@@ -324,10 +324,10 @@ def put_back(bench: Bench, target: Path) -> None:
 def test_places(room: str) -> None:
     """What is no place for a record, while a service runs and at its start."""
     bench = Bench(room, 1)
-    target, mine, kept = Path(room) / "target", after(bench.last), bench.text()
+    target, mine, stored = Path(room) / "target", after(bench.last), bench.text()
 
     def put(mode: int) -> None:
-        bench.path.write_text(kept)
+        bench.path.write_text(stored)
         bench.path.chmod(mode)
 
     places: list[tuple[str, Call, str]] = [
@@ -345,7 +345,7 @@ def test_places(room: str) -> None:
         for call in calls:
             text = str(raises(f"place: {what}", RecordFailed, call))
             assert word in text, f"place: {what}: its text: {text}"
-        assert os.path.lexists(bench.path) and target.read_text() == kept and len(bench.used()) == 1, f"place: {what} stays"
+        assert os.path.lexists(bench.path) and target.read_text() == stored and len(bench.used()) == 1, f"place: {what} stays"
         put_back(bench, target)
     for path, word in [("no/record", "folder is missing"), ("record/record", "Not a directory"), ("", "Is a directory")]:
         text = str(raises(f"place: {path}", RecordFailed, lambda: Guard(f"{room}/{path}", bench.signer)))
@@ -559,8 +559,8 @@ def test_swaps(room: str) -> None:
     raises("swap: it is abandoned before it is asked for", BodyAbandoned, lambda: own(third))
     own.meanwhile = [lambda: given.append(other(fourth))]
     raises("swap: another one is signed before it is abandoned", BodySigned, lambda: own.abandon(after(entry, 5)))
-    kept, fifth = record[0], after(fourth + given[2], 5)
-    own.meanwhile = [lambda: None, lambda: record.__setitem__(0, kept)]
+    stored, fifth = record[0], after(fourth + given[2], 5)
+    own.meanwhile = [lambda: None, lambda: record.__setitem__(0, stored)]
     raises("swap: the record goes back while it is signed", BodyRefused, lambda: own(fifth))
     assert own.signed() == other.signed() == fourth + given[2], "swap: the signed entry stays"
     record[0] = None

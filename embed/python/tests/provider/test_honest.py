@@ -241,8 +241,8 @@ class Member:
         """An operator gives a body up by the guard alone: one of the last lines of the log, or what the guard was asked for."""
         guard = Watched(self.world)
         found = [bytes.fromhex(it.split(b'"body":"')[1][:290].decode()) for it in self.world.lines.all[-3:] if b'"body":"' in it]
-        asked = guard.asked()
-        guard.abandon(self.world.chance.choice([*found, *([asked] if asked else [])] or [bytes(144) + b"\1"]))
+        requested = guard.asked()
+        guard.abandon(self.world.chance.choice([*found, *([requested] if requested else [])] or [bytes(144) + b"\1"]))
 
 
 def wrong(world: World) -> Optional[str]:
@@ -250,7 +250,7 @@ def wrong(world: World) -> Optional[str]:
     bodies = [it[:145] for it in world.signed]
     if any(is_evidence(one, other) for at, one in enumerate(bodies) for other in bodies[: at + 1]):
         return f"evidence: {[it.hex() for it in bodies]}"
-    member, told = Member(world), list[str]()
+    member, reported = Member(world), list[str]()
     for lines in sorted([world.lines.all, *world.backups], key=len, reverse=True):
         world.lines.replace(list(lines))
         try:
@@ -264,10 +264,10 @@ def wrong(world: World) -> Optional[str]:
             is_whole = world.acknowledged | world.shown <= {*chain} and {*bodies} <= {it[:145] for it in chain}
             return None if is_whole else "the chain lacks what was acknowledged, shown or signed"
         except ProviderError as error:
-            told.append(repr(error))
+            reported.append(repr(error))
         finally:
             member.end()
-    return f"no log goes on: {told}"
+    return f"no log goes on: {reported}"
 
 
 def run(program: str, seed: str, counts: Counter[str]) -> Optional[str]:
@@ -301,19 +301,19 @@ def pytest_generate_tests(metafunc: pytest.Metafunc) -> None:
 
 @pytest.mark.honest
 def test_run(program: str, counted: Counter[str], number: int) -> None:
-    told: list[Optional[str]] = ["it doesn't end"]
+    reported: list[Optional[str]] = ["it doesn't end"]
 
     def works() -> None:
         try:
-            told[0] = run(program, f"{SEED} {number}", counted)
+            reported[0] = run(program, f"{SEED} {number}", counted)
         except BaseException as error:
-            told[0] = repr(error)
+            reported[0] = repr(error)
 
     thread = threading.Thread(target=works, daemon=True)
     thread.start()
     thread.join(SECONDS)
     counted["runs"] += 1
-    assert told[0] is None
+    assert reported[0] is None
 
 
 @pytest.mark.honest

@@ -81,7 +81,7 @@ class Stage:
         self.close()
         guard, more = guarded(self.signer), {"children": self.children}
         with FileLog(self.path) as self.log, opened(self.program, self.log, self.signer, guard, **more) as self.own:
-            return {*self.there} <= {*self.own.chain()} == {*entries(self.log)} and self.signer.is_asked_once()
+            return {*self.there} <= {*self.own.chain()} == {*entries(self.log)} and self.signer.is_requested_once()
 
     def close(self) -> None:
         self.own.close()

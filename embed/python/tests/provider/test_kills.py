@@ -46,16 +46,16 @@ def check(what: str, room: Path, disk: Path, program: str, kind: str, library: b
         for epoch, entry, keys in [it for it in acknowledged[-20:] if it[0] >= first]:
             found = provider.lookups(keys, epoch)
             right = [it for it in found if isinstance(it, Lookup) and it.entry.hex() == entry]
-            said = {it.name: base64.b64encode(shown(it) or b"").decode() for it in right}
-            assert said == keys, f"{what}: epoch {epoch} has its keys: {(said, keys)}"
+            printed = {it.name: base64.b64encode(shown(it) or b"").decode() for it in right}
+            assert printed == keys, f"{what}: epoch {epoch} has its keys: {(printed, keys)}"
         assert all(
             it in by_epoch.values() for it in map(bytes.fromhex, lines(room / "shown"))
         ), f"{what}: each entry shown is in the chain"
-        assert signer.is_asked_once(), f"{what}: one body for each epoch: {signer.asked()}"
+        assert signer.is_requested_once(), f"{what}: one body for each epoch: {signer.requested()}"
         position, stored = log.snapshot() or (0, ())
         given_up = {bytes.fromhex(json.loads(it).get("abandons", "")) for it in log.read(position)}
         given_up |= {bytes.fromhex(body) for it in stored for body in json.loads(it).get("replaced", ())}
-        signed = {it for bodies in signer.asked().values() for it in bodies} - given_up
+        signed = {it for bodies in signer.requested().values() for it in bodies} - given_up
         assert not any(is_evidence(*it) for it in combinations(signed, 2)), f"{what}: no two bodies are evidence"
         last = provider.chain()[-1] if provider.chain() else None
         assert (guard.signed(), guard.asked()) == (last, None), f"{what}: the record ends as the log"
@@ -80,7 +80,7 @@ def one_kill(chance: random.Random, room: Path, disk: Path, program: str, kind: 
     """Starts the process, and kills it, or its children or one of them, and then it: some time after its start, or after it has
     replayed the log."""
     words = [sys.executable, str(HERE / "kills.py"), str(room), str(disk), program, kind, str(chance.randrange(1 << 30))]
-    with open(room / "said", "ab") as said, subprocess.Popen(words, stdout=subprocess.PIPE, stderr=said) as process:
+    with open(room / "said", "ab") as printed, subprocess.Popen(words, stdout=subprocess.PIPE, stderr=printed) as process:
         assert process.stdout
         if chance.randrange(3):
             process.stdout.readline()
@@ -115,6 +115,6 @@ def test_kills(program: str, pytestconfig: pytest.Config, say: Callable[[str], N
                 counts[turn] = counts.get(turn, 0) + 1
                 there = check(what, Path(room), disk, program, kind, library)
             acknowledged, seen = acknowledged + there[0], seen + there[1]
-    told = ", ".join(f"{it} {counts[it]}" for it in sorted(counts))
+    reported = ", ".join(f"{it} {counts[it]}" for it in sorted(counts))
     assert acknowledged and seen, "kills: epochs were acknowledged and shown"
-    say(f"{count} kills ({told}): {acknowledged} epochs acknowledged, {seen} entries shown")
+    say(f"{count} kills ({reported}): {acknowledged} epochs acknowledged, {seen} entries shown")

@@ -102,7 +102,7 @@ class Service:
 
     def is_one_chain(self, what: str) -> None:
         """The signer was asked for one body per epoch."""
-        assert self.signer.is_asked_once(), f"{what}: one body for each epoch: {self.signer.asked()}"
+        assert self.signer.is_requested_once(), f"{what}: one body for each epoch: {self.signer.requested()}"
 
     def goes_on(self, what: str) -> None:
         """Lookups go on as before."""
@@ -187,11 +187,11 @@ def test_moved(it: Service) -> None:
             f"a log that was {what}", LogRefused, lambda: it.commit(it.own.latest().epoch + 1, Register(f"new {what}", b"key"))
         )
         it.goes_on(f"a log that was {what}")
-        asked = len(it.signer.asked())
+        requested = len(it.signer.requested())
         with suppress(ProviderError):
             it.own.restart()
         it.goes_on(f"a log that was {what}, after restart")
-        assert len(it.signer.asked()) == asked, f"a log that was {what}: nothing is signed"
+        assert len(it.signer.requested()) == requested, f"a log that was {what}: nothing is signed"
         it.stop()
         it.log.write_bytes(data)
         it.log.chmod(0o600)
@@ -217,7 +217,7 @@ def test_moved(it: Service) -> None:
     epoch = it.own.latest().epoch + 1
     with mock.patch.object(os, "pwrite", moved_meanwhile):
         it.refuses("a log that is moved during an append", LogFailed, lambda: it.own.commit(epoch, []))
-    assert epoch not in it.signer.asked(), "a log that is moved during an append: nothing is signed"
+    assert epoch not in it.signer.requested(), "a log that is moved during an append: nothing is signed"
     it.goes_on("a log that is moved during an append")
     os.rename(it.room / "elsewhere", it.log)
     it.stop()
@@ -259,7 +259,7 @@ def test_changed(it: Service) -> None:
         change()
         after = it.log.read_bytes()
         it.refuses(f"a log that was {what}", LogRefused, lambda: it.own.commit(3, [Register("new", b"key")]))
-        assert it.log.read_bytes() == after and 3 not in it.signer.asked(), f"a log that was {what}: nothing is written"
+        assert it.log.read_bytes() == after and 3 not in it.signer.requested(), f"a log that was {what}: nothing is written"
         it.goes_on(f"a log that was {what}")
         it.log.write_bytes(data)
     it.commit(3)
@@ -320,7 +320,7 @@ def test_backups(it: Service) -> None:
     file_of(it.own).__init__(it.log)  # type: ignore[misc]
     it.refuses("a log that lost a body that may be signed", LogForked, it.own.restart)
     seen = it.own.evidence()
-    assert seen and [*it.signer.asked()[4]] == [seen.bodies[0]], "a log that lost a body: the evidence has it"
+    assert seen and [*it.signer.requested()[4]] == [seen.bodies[0]], "a log that lost a body: the evidence has it"
     file_of(it.own).close()
     it.log.write_bytes(whole)
     file_of(it.own).__init__(it.log)  # type: ignore[misc]
@@ -348,11 +348,11 @@ def refuses_link(own: Provider) -> bool:
 def test_keys(it: Service) -> None:
     """Keys that were exchanged."""
     it.stop()
-    before, asked = it.log.read_bytes(), len(it.signer.asked())
+    before, requested = it.log.read_bytes(), len(it.signer.requested())
     it.refuses("another key of the VRF", OtherIndex, lambda: it.opened(index=other_index))
     it.refuses("another policy", LogFailed, lambda: it.opened(policy=bytes(32)))
     it.refuses("another nonce", LogFailed, lambda: it.opened(nonce=bytes(32)))
-    assert it.log.read_bytes() == before and len(it.signer.asked()) == asked, "other keys: nothing is written or signed"
+    assert it.log.read_bytes() == before and len(it.signer.requested()) == requested, "other keys: nothing is written or signed"
     it.own = it.opened(index=other_index, check_indices=False)
     it.refuses("another key of the VRF that is forced", OtherIndex, lambda: it.own.commit(3, [Change("alice", b"3")]))
     it.stop()
@@ -372,13 +372,13 @@ def test_keys(it: Service) -> None:
     it.own = it.opened(index=other_index, check_indices=False)
     it.signer.fails = 1
     it.refuses("an update under another key", SignerFailed, lambda: it.own.commit(4, [Register("frank", b"key")]))
-    last, asked = it.own.chain()[-1], len(asked_of(it))
+    last, requested = it.own.chain()[-1], len(requested_of(it))
     it.stop()
     it.refuses("a pending update under another key", OtherIndex, it.opened)
     it.own = it.opened(sign_pending=False, sign=guarded(it.signer, known=last))
     it.refuses("a pending update under another key: retry", OtherIndex, it.own.retry)
     it.refuses("a pending update under another key: a later one", OtherIndex, lambda: it.commit(5, Register("frank", b"key")))
-    assert len(asked_of(it)) == asked and it.own.pending, "a pending update under another key: nothing is signed"
+    assert len(requested_of(it)) == requested and it.own.pending, "a pending update under another key: nothing is signed"
     it.own.abandon()
     it.commit(5, Register("frank", b"key"))
     assert it.own.lookup("frank").epoch == 5 and it.own.latest().names == 3, "the update is replaced"
@@ -558,11 +558,11 @@ def test_refusals(it: Service) -> None:
             assert it.own.latest().epoch == 3 and shown(it.own.lookup("dora")) is None, "an epoch that isn't logged is not shown"
     it.commit(5, Change("dora", b"5"))
     assert [entry[8] for entry in entries(log)] == [1, 2, 3, 4, 5], "the next commit logs it first"
-    assert [entry[8] for entry in asked_of(it)].count(4) == 1, "the signer was asked once for it"
+    assert [entry[8] for entry in requested_of(it)].count(4) == 1, "the signer was asked once for it"
     it.is_one_chain("refusals")
 
 
-def asked_of(it: Service) -> list[bytes]:
+def requested_of(it: Service) -> list[bytes]:
     return [bytes.fromhex(line) for line in lines(it.signer.file)]
 
 

@@ -102,16 +102,16 @@ def test_given_up(program: str) -> None:
         ]
         for what, error, call in calls:
             raised = raises(f"given up: {what}", error, call)
-            is_told = error is not SignerFailed or (
+            is_reported = error is not SignerFailed or (
                 raised and isinstance(raised.__cause__, BodyAbandoned) and "later" in str(raised)
             )
-            assert is_told and len(stage.bodies()) == asked and own.pending == pending, f"given up: {what} signs nothing"
+            assert is_reported and len(stage.bodies()) == asked and own.pending == pending, f"given up: {what} signs nothing"
         made = own.commit(4, [Register("third", b"key")])
         assert stage.epochs() == [1, 4] and made.entry[9:17] == bytes(7) + b"\1", "given up: another one follows"
         assert shown(own.lookup("second")) is None and own.latest().names == 2, "given up: no name of it is there"
         prepared = [json.loads(line) for line in stage.lines.all if b'"prepare"' in line]
-        told = [it.get("abandons") for it in prepared]
-        assert told == [None, None, prepared[1]["body"]] and stage.given_up() == [
+        reported = [it.get("abandons") for it in prepared]
+        assert reported == [None, None, prepared[1]["body"]] and stage.given_up() == [
             pending.body
         ], "given up: the line says what it abandons"
         assert stage.is_one_chain(), "given up: one chain"
@@ -160,8 +160,8 @@ def test_late(program: str) -> None:
         assert own.pending
         stage.guard(own.pending.body)
         raised = raises("late: another process signed it", SignerFailed, own.abandon)
-        is_told = raised and isinstance(raised.__cause__, BodySigned) and "retry" in str(raised)
-        assert is_told and own.retry().epoch == 3 and stage.is_one_chain(), "late: its cause and its text"
+        is_reported = raised and isinstance(raised.__cause__, BodySigned) and "retry" in str(raised)
+        assert is_reported and own.retry().epoch == 3 and stage.is_one_chain(), "late: its cause and its text"
         for what, error in [("a signer that can't be reached", TimeoutError("told to fail")), ("another error", KeyError("no"))]:
             stage.fails(what, own.latest().epoch + 1)
             with mock.patch.object(Guard, "abandon", side_effect=error):
@@ -171,16 +171,16 @@ def test_late(program: str) -> None:
 
 def refuses_next(stage: Stage) -> None:
     """The log refuses the next line."""
-    real, told = Engine.ask, list[bytes]()
+    real, reported = Engine.ask, list[bytes]()
 
     def ask(engine: Engine, line: bytes) -> Any:
-        told.append(line)
+        reported.append(line)
         return real(engine, line)
 
     stage.log.before = stopped(LogRefused("told to refuse: try again"))
     with mock.patch.object(Engine, "ask", ask):
         raises("a log that refuses", LogRefused, lambda: stage.provider.commit(4, [Register("no", b"key")]))
-    stored, (mine, dropped, again) = json.loads(stage.lines.all[-1]), map(json.loads, told)
+    stored, (mine, dropped, again) = json.loads(stage.lines.all[-1]), map(json.loads, reported)
     assert mine["abandons"] == stored["body"] and "body" not in mine, "the line says what it abandons"
     assert dropped == {"cmd": "withdraw"} and again == {
         it: stored[it] for it in stored if it != "abandons"
@@ -248,10 +248,10 @@ def test_refused_again_and_again(program: str) -> None:
             bodies.append(stage.provider.pending.body)
             stage.provider.abandon()
         assert json.loads(stage.lines.all[-1])["abandons"] == bodies[0].hex()
-        kept = [*stage.lines.all]
+        saved = [*stage.lines.all]
         for _ in range(3):
             refuses_next(stage)
-            assert stage.lines.all == kept and stage.provider.pending and stage.provider.pending.body == bodies[1], "it is pending"
+            assert stage.lines.all == saved and stage.provider.pending and stage.provider.pending.body == bodies[1], "it is pending"
         stage.log.before = lambda line: None
         stage.provider.commit(5, [Register("five", b"key")])
         assert stage.epochs() == [1, 5] and stage.given_up() == bodies and stage.is_one_chain(), "another one follows"

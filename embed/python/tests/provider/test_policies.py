@@ -41,9 +41,9 @@ def test_fields() -> None:
     """Each combination of fields has one document, and each document its policy."""
     clocks: list[tuple[Optional[int], Optional[int]]] = [(None, None), (0, 1), (2**64 - 1, 2**64 - 1)]
     policies = [
-        Policy(origin, FIRST, vrf, clock[0], clock[1], kept, records_vouched=records)
+        Policy(origin, FIRST, vrf, clock[0], clock[1], stored, records_vouched=records)
         for origin, vrf, clock in itertools.product(["a", "!" * 255, "~"], [None, SECOND], clocks)
-        for kept, records in itertools.product([None, 0, 2**64 - 1], [False, True])
+        for stored, records in itertools.product([None, 0, 2**64 - 1], [False, True])
     ]
     texts = {bytes(it): it for it in policies}
     assert len(texts) == 3 * 2 * 3 * 3 * 2, "policy: each has a document of its own"

@@ -71,8 +71,8 @@ def test_cases(program: str, tmp_path: Path) -> None:
         written(path, log)
         if snapshot:
             written(Path(f"{path}.snapshot"), snapshot)
-        told = json.loads(case.read("out"))
-        wanted = None if "refused" in told or name in OTHER_FILES else told
+        reported = json.loads(case.read("out"))
+        wanted = None if "refused" in reported or name in OTHER_FILES else reported
         assert replayed(program, path) == wanted, name
 
 
@@ -93,9 +93,9 @@ def test_directory(program: str, tmp_path: Path) -> None:
             raises("a signer that fails", SignerFailed, lambda: own.commit(epoch, [Register(f"never-{epoch}", b"key")], force=True))
 
         def is_shown(*files: Path) -> bool:
-            told, latest = checked(program, *files), own.latest()
-            assert own.pending and told["pending"] == own.pending.body.hex(), told
-            return (told["epoch"], told["link"], told["names"]) == (latest.epoch, latest.link.hex(), latest.names)
+            reported, latest = checked(program, *files), own.latest()
+            assert own.pending and reported["pending"] == own.pending.body.hex(), reported
+            return (reported["epoch"], reported["link"], reported["names"]) == (latest.epoch, latest.link.hex(), latest.names)
 
         own.commit(1, [Register(f"user-{it}", b"key %d" % it) for it in range(300)], force=True)
         fails(2)
@@ -113,6 +113,6 @@ def test_directory(program: str, tmp_path: Path) -> None:
         assert is_shown(stored, path) and checked(program, path)["refused"] == {"fault": "Order"}
         whole = path.read_bytes()
         path.write_bytes(whole[:-2])
-        told = checked(program, stored, path)
-        assert told == {"line": len(stored.read_bytes().splitlines()) + 2, "refused": {"fault": "Json"}}, "a line that is cut"
+        reported = checked(program, stored, path)
+        assert reported == {"line": len(stored.read_bytes().splitlines()) + 2, "refused": {"fault": "Json"}}, "a line that is cut"
         path.write_bytes(whole)

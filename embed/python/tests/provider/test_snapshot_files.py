@@ -41,20 +41,20 @@ class Genuine:
     def __init__(self, lines: Sequence[bytes]) -> None:
         self.lines = [*lines]
         self.header, self.entered, _, self.page, self.last = lines
-        self.said, self.chain = json.loads(self.header), json.loads(self.entered)["entries"]
+        self.printed, self.chain = json.loads(self.header), json.loads(self.entered)["entries"]
         self.bindings = json.loads(self.page)["bindings"]
 
     def headed(self, **more: Any) -> list[bytes]:
-        return [encoded({**self.said, **more}), *self.lines[1:]]
+        return [encoded({**self.printed, **more}), *self.lines[1:]]
 
     def chained(self, *listed: str, count: int = 0, restored: object = None) -> list[bytes]:
         restore = restored or (listed[-1] if listed else self.chain[-1])
-        header = encoded({**self.said, "epochs": count or len(listed)})
+        header = encoded({**self.printed, "epochs": count or len(listed)})
         return [header, encoded({"entries": listed}), encoded({"cmd": "restore", "entry": restore}), self.page, self.last]
 
     def bound(self, *listed: Any) -> list[bytes]:
         page = encoded({"cmd": "restoring", "bindings": listed})
-        return [encoded({**self.said, "names": len(listed)}), *self.lines[1:3], page, self.last]
+        return [encoded({**self.printed, "names": len(listed)}), *self.lines[1:3], page, self.last]
 
     def in_lines(self) -> Altered:
         lines, last = self.lines, self.last
@@ -90,10 +90,10 @@ class Genuine:
         yield "a link of junk", [*lines[:-1], b'{"cmd":"restored","link":"x"}']
 
     def in_the_chain(self) -> Altered:
-        said, chain = self.said, self.chain
+        printed, chain = self.printed, self.chain
         for member in ("snapshot", "position", "epochs", "names"):
-            for value in (None, "1", -1, 0, 1.0, True, [], 2**70, *(said[member] + more for more in (-1, 1, 2))):
-                if value != said[member] or type(value) is not int:
+            for value in (None, "1", -1, 0, 1.0, True, [], 2**70, *(printed[member] + more for more in (-1, 1, 2))):
+                if value != printed[member] or type(value) is not int:
                     yield f"{member} {value!r}", self.headed(**{member: value})
         yield "another policy", self.headed(policy="00" * 32)
         yield "another log", self.headed(log=3)
@@ -128,7 +128,7 @@ def test_altered(program: str) -> None:
     with staged(program) as it:
         fill(it.own, [1, 2, 3, 4], 2)
         it.own.compact(3)
-        genuine, chain, asked = it.lines(), it.own.chain(), it.signer.file.read_bytes()
+        genuine, chain, requested = it.lines(), it.own.chain(), it.signer.file.read_bytes()
         it.close()
         count, of = 0, Genuine(genuine)
         for what, lines in [*of.in_lines(), *of.in_the_chain(), *of.in_bindings()]:
@@ -147,7 +147,7 @@ def test_altered(program: str) -> None:
         it.write(of.headed(position=0))
         raises("altered: entries that would be read twice", SnapshotDiffers, lambda: [*entries(it.log)])
         it.log.close()
-        assert it.signer.file.read_bytes() == asked, "altered: the signer isn't asked"
+        assert it.signer.file.read_bytes() == requested, "altered: the signer isn't asked"
         it.write(genuine)
         assert it.again().chain() == chain, "altered: the genuine one"
         it.write(genuine[:-1])
@@ -180,8 +180,8 @@ def test_signature(program: str) -> None:
 
         raises("signature: a wrong one", SnapshotDiffers, lambda: it.start(verify=verify))
         assert calls == [(other[:145], other[145:])], "signature: it was verified"
-        for said in (1, None, "yes"):
-            raises(f"signature: verified as {said!r}", SnapshotDiffers, lambda: it.start(verify=lambda *_: said))
+        for printed in (1, None, "yes"):
+            raises(f"signature: verified as {printed!r}", SnapshotDiffers, lambda: it.start(verify=lambda *_: printed))
         raises("signature: one that fails to be verified", LogFailed, lambda: it.start(verify=lambda *_: 1 // 0))
         raises("signature: nobody verifies it, and the log has another", SnapshotDiffers, lambda: it.start(verify=None))
         found = it.log.snapshot()
@@ -342,7 +342,7 @@ def test_kinds(program: str) -> None:
             assert not new.exists() and (it.snapshot.stat().st_mode & 0o777) == 0o600, f"files: {what}"
             it.own.restart()
         for place in (new, it.snapshot):
-            kept = place.read_bytes() if place.exists() else None
+            saved = place.read_bytes() if place.exists() else None
             for text in (b"a letter", b'{"cmd":"open"}\n', b"{"):
                 place.write_bytes(text)
                 place.chmod(0o600)
@@ -351,7 +351,7 @@ def test_kinds(program: str) -> None:
                     continue
                 raised = raises(f"files: another file at {place.name}", LogRefused, it.own.compact)
                 assert str(place) in str(raised) and place.read_bytes() == text, f"files: it stays: {raised}"
-            assert place == it.snapshot or (kept is None and not new.exists())
+            assert place == it.snapshot or (saved is None and not new.exists())
         other = it.room / "other"
         other.write_text("kept")
         new.symlink_to(other)
@@ -598,8 +598,8 @@ def test_beside() -> None:
         other = [stored(9)[0], b"another line", stored(9)[2]]
         with mock.patch.object(fcntl, "flock", put):
             raises("beside: another call stores its file before it is locked", LogRefused, lambda: log.compact(9, other))
-        is_kept = [*(log.snapshot() or (9, []))[1]] == stored(9) and len(files(path)) == 2
-        assert is_kept, "beside: it isn't overwritten"
+        is_stored = [*(log.snapshot() or (9, []))[1]] == stored(9) and len(files(path)) == 2
+        assert is_stored, "beside: it isn't overwritten"
         lines, real_mode = path.read_bytes(), os.fchmod
 
         def append(file: int, mode: int) -> None:

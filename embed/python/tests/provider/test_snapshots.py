@@ -31,23 +31,23 @@ START, PERIOD = 1767225600, 3600
 
 def wrong(lines: Sequence[bytes], chain: Sequence[bytes], names: int, position: int) -> str:
     """What isn't as docs/STORED.md defines the lines of a snapshot; empty if all is."""
-    said = [json.loads(it) for it in lines]
-    header, last = said[0], said[-1]
+    printed = [json.loads(it) for it in lines]
+    header, last = printed[0], printed[-1]
     if header.items() < {"snapshot": 1, "position": position, "epochs": len(chain), "names": names, "log": 2}.items():
         return "the header"
     if header["policy"] != POLICY.hex() or len(header["nonce"]) != 64 or b'"cmd"' in lines[0]:
         return "what the open line said"
-    groups = [it["entries"] for it in said if "entries" in it]
+    groups = [it["entries"] for it in printed if "entries" in it]
     if [bytes.fromhex(it) for group in groups for it in group] != [*chain] or not all(1 <= len(it) <= 1000 for it in groups):
         return "the entries"
-    kinds = [it.get("cmd") or next(iter(it)) for it in said]
+    kinds = [it.get("cmd") or next(iter(it)) for it in printed]
     if kinds != sorted(kinds, key=["snapshot", "entries", "replaced", "restore", "restoring", "restored"].index):
         return "the order of the lines"
-    bindings = [it["bindings"] for it in said if it.get("cmd") == "restoring"]
+    bindings = [it["bindings"] for it in printed if it.get("cmd") == "restoring"]
     indices = [it["index"] for page in bindings for it in page]
     if indices != sorted(indices) or len({*indices}) != names or not all(1 <= len(it) <= 4096 for it in bindings):
         return "the bindings"
-    if [it["entry"] for it in said if it.get("cmd") == "restore"] != [chain[-1].hex()]:
+    if [it["entry"] for it in printed if it.get("cmd") == "restore"] != [chain[-1].hex()]:
         return "the entry to restore"
     is_last = last == {"cmd": "restored", "link": sha256(b"\x53" + chain[-1]).hexdigest()}
     return "" if is_last and kinds.count("restored") == kinds.count("snapshot") == 1 else "the last line"
@@ -59,15 +59,15 @@ def test_same(program: str) -> None:
     with staged(program) as it:
         fill(it.own, epochs)
         for at in (4, 4, 5, 12, 13):
-            kept = [epoch for epoch in epochs if epoch >= at]
-            before, chain, latest, pid = seen(it.own, kept), it.own.chain(), it.own.latest(), it.own.pid
+            stored = [epoch for epoch in epochs if epoch >= at]
+            before, chain, latest, pid = seen(it.own, stored), it.own.chain(), it.own.latest(), it.own.pid
             names = it.own.lookups([f"user-{epoch}-{number}" for epoch in epochs for number in range(5)], at)
             count = 1 + sum(shown(found) is not None for found in names if isinstance(found, provider.Lookup))
             position = it.own.compact(at)
             what = f"same at {at}"
             assert position == 1 + 2 * (1 + epochs.index(at)), f"{what}: the position: {position}"
-            said = wrong(it.lines(), chain[: 1 + epochs.index(at)], count, position)
-            assert not said, f"{what}: the lines are as defined: {said}"
+            printed = wrong(it.lines(), chain[: 1 + epochs.index(at)], count, position)
+            assert not printed, f"{what}: the lines are as defined: {printed}"
             assert it.own.pid != pid, f"{what}: another child"
             for how in ("compact", "a start", "a restart", "a child that ended"):
                 if how == "a start":
@@ -76,7 +76,7 @@ def test_same(program: str) -> None:
                     it.own.restart()
                 elif how == "a child that ended":
                     kill_child(it.own)
-                assert seen(it.own, kept) == before, f"{what}, {how}: lookups"
+                assert seen(it.own, stored) == before, f"{what}, {how}: lookups"
                 assert it.own.chain() == chain == [*entries(it.log)], f"{what}, {how}: the chain"
                 assert it.own.catch_up(0) == b"".join(chain), f"{what}, {how}: a catch-up has all"
                 found = it.own.latest()
@@ -98,8 +98,8 @@ def test_pages(program: str) -> None:
         it.own.commit(4, [Register(f"large-{number}", bytes([number]) * 16384) for number in range(40)])
         before, chain = it.own.lookups([f"user-1-{number}" for number in range(900)]), it.own.chain()
         it.own.compact()
-        said, sizes = wrong(it.lines(), chain, 2740, 9), [len(line) for line in it.lines()]
-        assert not said, f"pages: the lines are as defined: {said}"
+        printed, sizes = wrong(it.lines(), chain, 2740, 9), [len(line) for line in it.lines()]
+        assert not printed, f"pages: the lines are as defined: {printed}"
         assert len(sizes) > 10 and max(sizes) < 1 << 20, f"pages: they are of some size: {sizes}"
         assert it.again().lookups([f"user-1-{number}" for number in range(900)]) == before, "pages: the lookups"
 
@@ -132,9 +132,9 @@ def test_epochs(program: str) -> None:
         raises("epochs: the signer can't", SignerFailed, lambda: it.own.commit(9, []))
 
 
-def policy_of(kept: Optional[int], has_clock: bool = True) -> Policy:
+def policy_of(stored: Optional[int], has_clock: bool = True) -> Policy:
     start, period = (START, PERIOD) if has_clock else (None, None)
-    return Policy("keys.example.com", bytes(32), epoch_start=start, epoch_period=period, proofs_kept=kept)
+    return Policy("keys.example.com", bytes(32), epoch_start=start, epoch_period=period, proofs_kept=stored)
 
 
 def test_promises(program: str) -> None:
@@ -243,8 +243,8 @@ def test_replaced(program: str) -> None:
 class Recorded:
     """A signer that says what its record has."""
 
-    def __init__(self, signed: bytes, asked: bytes) -> None:
-        self._has = signed, asked
+    def __init__(self, signed: bytes, requested: bytes) -> None:
+        self._has = signed, requested
 
     def __call__(self, body: bytes) -> bytes:
         raise TimeoutError("the signer is told to fail")
@@ -252,7 +252,7 @@ class Recorded:
     def signed(self) -> bytes:
         return self._has[0]
 
-    def asked(self) -> bytes:
+    def requested(self) -> bytes:
         return self._has[1]
 
 
@@ -303,14 +303,14 @@ class Delayed:
         return getattr(self._log, name)
 
     def compact(self, position: int, lines: Iterator[bytes]) -> None:
-        def told() -> Iterator[bytes]:
+        def reported() -> Iterator[bytes]:
             for number, line in enumerate(lines):
                 if number == self._number:
                     self._number = -1
                     self._call()
                 yield line
 
-        self._log.compact(position, told())
+        self._log.compact(position, reported())
 
 
 MEANWHILE: dict[str, Callable[[Stage], object]] = {
@@ -543,7 +543,7 @@ def test_refused_lines(program: str) -> None:
         with mock.patch.object(it.log, "append", refuses):
             raises("refused lines: a commit", LogRefused, lambda: it.own.commit(3, [Register("late", b"key")]))
             assert it.own.compact() == 5 and it.own.latest().epoch == 2 and it.own.pending, "refused lines: a snapshot"
-        assert it.own.retry().epoch == 3 and it.signer.is_asked_once(), "refused lines: the same body"
+        assert it.own.retry().epoch == 3 and it.signer.is_requested_once(), "refused lines: the same body"
         assert it.again().chain() == it.own.chain() and shown(it.own.lookup("late")) == b"key", "refused lines: a start"
 
 

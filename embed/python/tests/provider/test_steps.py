@@ -49,8 +49,10 @@ def check(what: str, stage: Stage, is_logged: bool, library: bool) -> None:
     assert stage.provider.pending is None, f"{what}: nothing is pending"
     made = stage.provider.commit(3, [Register("third", b"key")])
     assert stage.provider.lookup("third").entry == made.entry, f"{what}: a lookup has the next entry"
-    assert stage.signer.is_asked_once(), f"{what}: one body for each epoch"
-    assert set(stage.signer.asked()) == {1, 3} | ({2} if is_logged else set()), f"{what}: a body is signed only after it was logged"
+    assert stage.signer.is_requested_once(), f"{what}: one body for each epoch"
+    assert set(stage.signer.requested()) == {1, 3} | (
+        {2} if is_logged else set()
+    ), f"{what}: a body is signed only after it was logged"
     assert audited(entries(stage.log), stage.signer.keys, library), f"{what}: the chain is audited"
 
 
@@ -89,8 +91,8 @@ def test_stop(program: str, what: str, how: str, children: int) -> None:
     with tempfile.TemporaryDirectory() as room:
         stage = Stage(room, program, children)
         set_up(stage)
-        told = commit_stopped(stage, error)
-        assert told is None
+        reported = commit_stopped(stage, error)
+        assert reported is None
         stage.start_again(how)
         check(what, stage, is_logged, has_library())
         stage.close()
@@ -103,8 +105,8 @@ def test_disk(program: str, name: str, number: int) -> None:
     with tempfile.TemporaryDirectory() as room:
         stage = Stage(room, program)
         with failing(stage, name, number):
-            told = commit_stopped(stage, LogRefused)
-        assert told is None
+            reported = commit_stopped(stage, LogRefused)
+        assert reported is None
         stage.start_again("next")
         check(f"{name} {number} fails", stage, number == 2, has_library())
         stage.close()
@@ -118,8 +120,8 @@ def test_undone(program: str, name: str) -> None:
     with tempfile.TemporaryDirectory() as room:
         stage = Stage(room, program)
         with failing(stage, "fsync", 1) if name == "ftruncate" else nullcontext(), mock.patch.object(os, name, cut):
-            told = commit_stopped(stage, LogFailed)
-        assert told is None
+            reported = commit_stopped(stage, LogFailed)
+        assert reported is None
         for _ in range(2):
             raises("a restart", LogFailed, lambda: stage.start_again("restart"))
         raised = raises("a commit", RestartNeeded, stage.provider.retry)
@@ -164,7 +166,7 @@ def fill(room: Path, program: str, rounds: int, library: bool) -> None:
                 assert all(
                     by_epoch.get(it) == entry for it, entry in there.items()
                 ), f"full disk {turn}: each acknowledged epoch is there"
-                assert signer.is_asked_once(), f"full disk {turn}: one body for each epoch"
+                assert signer.is_requested_once(), f"full disk {turn}: one body for each epoch"
                 assert audited(entries(log), signer.keys, library), f"full disk {turn}: the chain is audited"
         assert len(there) > rounds, f"full disk: epochs were acknowledged: {len(there)}"
 

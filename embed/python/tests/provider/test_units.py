@@ -76,9 +76,9 @@ class Room:
 
 def faked(room: Path, answers: Iterable[str]) -> list[str]:
     """The words of a program that prints these lines."""
-    told = room / "told"
-    told.write_text("".join(f"{it}\n" for it in answers))
-    return [sys.executable, str(HERE / "fake.py"), str(told)]
+    reported = room / "told"
+    reported.write_text("".join(f"{it}\n" for it in answers))
+    return [sys.executable, str(HERE / "fake.py"), str(reported)]
 
 
 class OneLine:
@@ -106,8 +106,8 @@ def test_each_fault_has_a_class() -> None:
 def test_named_fault(tmp_path: Path, name: str) -> None:
     """A fault of docs/LINES.md, as a program prints it."""
     members = FAULTS[name]
-    told = json.dumps({"fault": PRINTED.get(name, name)} | members)
-    with Provider(Settings(faked(tmp_path, [OPEN, told, told]), index, POLICY), Salted().sign, OneLine()) as it:
+    reported = json.dumps({"fault": PRINTED.get(name, name)} | members)
+    with Provider(Settings(faked(tmp_path, [OPEN, reported, reported]), index, POLICY), Salted().sign, OneLine()) as it:
         whole = {part: members.get(part) for part in ("position", "latest", "member")}
         raised = raises(name, getattr(provider, name), lambda: it.commit(1, []), **whole)
         for copied in (copy.copy(raised), pickle.loads(pickle.dumps(raised))):
@@ -179,11 +179,11 @@ def test_real_faults(program: str) -> None:
             assert seen == [b"other", None, None] * 300, "many lookups are those of each"
             assert own.lookups([]) == [], "many lookups of none"
             assert own.latest().link == second.link and own.latest().names == 2 and own.latest().epoch == 6, "the latest"
-            kept = [bytes.fromhex(json.loads(it)["link"]) for it in log.read(0) if b'"link"' in it]
-            assert kept == [first.link, second.link], "the log has the links"
-        said = subprocess.run([program, *["--workers", "1"]], stdin=open(Path(other) / "log", "rb"), capture_output=True)
-        made = [json.loads(line) for line in said.stdout.splitlines()]
-        assert said.returncode == 0 and [line["ok"] for line in made] == [
+            stored = [bytes.fromhex(json.loads(it)["link"]) for it in log.read(0) if b'"link"' in it]
+            assert stored == [first.link, second.link], "the log has the links"
+        printed = subprocess.run([program, *["--workers", "1"]], stdin=open(Path(other) / "log", "rb"), capture_output=True)
+        made = [json.loads(line) for line in printed.stdout.splitlines()]
+        assert printed.returncode == 0 and [line["ok"] for line in made] == [
             "open",
             *["prepare", "install"] * 2,
         ], "the log is a script of the program"
@@ -400,21 +400,21 @@ def test_signer(program: str) -> None:
             assert own.pending and own.pending.epoch == 3 and own.latest().epoch == 0, f"a signer that {what}: it is pending"
         for what, key in [("operations", b"other"), ("openings", b"key")]:
             other = [Register("alice", key)]
-            raises(f"other {what} under the number", provider.EpochSpent, lambda: own.commit(3, other), epoch=3, asked=3)
-        raises("the same operations under a number before", provider.EpochSpent, lambda: own.commit(2, mine), epoch=2, asked=3)
+            raises(f"other {what} under the number", provider.EpochSpent, lambda: own.commit(3, other), epoch=3, requested=3)
+        raises("the same operations under a number before", provider.EpochSpent, lambda: own.commit(2, mine), epoch=2, requested=3)
         it.signer.fails = 1
         raises("a later number while the signer fails", provider.SignerFailed, lambda: own.commit(4, [Change("alice", b"4")]))
         assert own.pending and own.pending.epoch == 3, "a later number while the signer fails: the update is pending"
         it.signer.fails = 1
         raises("a retry that fails", provider.SignerFailed, own.retry)
         assert own.commit(3, mine).epoch == 3 and own.pending is None, "the same operations"
-        assert len(it.signer.asked()[3]) == 1, "one body"
+        assert len(it.signer.requested()[3]) == 1, "one body"
         it.signer.fails = 1
         raises("the next fails", provider.SignerFailed, lambda: own.commit(5, [Change("alice", b"5")]))
         assert own.retry().epoch == 5 and shown(own.lookup("alice")) == b"5", "a retry"
         it.signer.fails = 1
         raises("the third fails", provider.SignerFailed, lambda: own.commit(6, [Change("alice", b"6"), Register("six", b"6")]))
-        raises("the number before", provider.EpochSpent, lambda: own.commit(5, [Change("alice", b"7")]), epoch=5, asked=6)
+        raises("the number before", provider.EpochSpent, lambda: own.commit(5, [Change("alice", b"7")]), epoch=5, requested=6)
         raises("a refused batch under a later number", provider.NameUnknown, lambda: own.commit(7, [Change("bob", b"k")]))
         assert own.pending is None and own.latest().epoch == 6, "a refused batch: the update before is installed"
         assert (
@@ -441,7 +441,7 @@ def test_signer(program: str) -> None:
         ), "a restart whose signer fails: lookups go on"
         own.restart()
         assert own.pending is None and own.latest().epoch == 10 and shown(own.lookup("alice")) == b"10", "a restart that signs"
-        assert it.signer.is_asked_once() and set(it.signer.asked()) == {3, 5, 6, 9, 10}, "one body for each epoch"
+        assert it.signer.is_requested_once() and set(it.signer.requested()) == {3, 5, 6, 9, 10}, "one body for each epoch"
         assert audited(entries(it.log), it.signer.keys, False) and len(list(entries(it.log))) == 5, "the chain is audited"
     for error in (provider.EpochSpent(3, 5), provider.EpochTooFar(3, 5), provider.EpochNotNow(3, 5)):
         copied = pickle.loads(pickle.dumps(error))
@@ -518,7 +518,9 @@ def test_logs(program: str) -> None:
         log = OneLine()
         log.lines = whole[:-1]
         with Provider(Settings(program, index, POLICY), it.signer, log) as own:
-            assert own.latest().epoch == 2 and it.signer.is_asked_once() and len(log.lines) == 5, "a log that ends before `install`"
+            assert (
+                own.latest().epoch == 2 and it.signer.is_requested_once() and len(log.lines) == 5
+            ), "a log that ends before `install`"
             log.lines.append(b"another provider's")
             raises("a log that was overtaken", provider.Overtaken, lambda: own.commit(3, []))
             raised = raises("a log that was overtaken: the next commit", provider.RestartNeeded, lambda: own.commit(3, []))
@@ -528,13 +530,13 @@ def test_logs(program: str) -> None:
             log.lines.pop()
             own.restart()
             assert own.commit(3, []).epoch == 3, "a log that was overtaken: restart"
-            assert it.signer.is_asked_once() and len(it.signer.asked()[3]) == 1, "a log that was overtaken: no body"
+            assert it.signer.is_requested_once() and len(it.signer.requested()[3]) == 1, "a log that was overtaken: no body"
         for broken, word in [(OSError(28, "No space left"), "No space left. "), (ValueError("hunter2"), "ValueError, which is")]:
             failing = OneLine()
-            for call, said in [("read", "the log can't be read"), ("append", "the log can't be written")]:
+            for call, printed in [("read", "the log can't be read"), ("append", "the log can't be written")]:
                 with mock.patch.object(failing, call, side_effect=broken):
-                    raised = raises(said, provider.LogFailed, lambda: start(failing))
-                assert str(raised).startswith(said) and word in str(raised) and "hunter2" not in str(raised), str(raised)
+                    raised = raises(printed, provider.LogFailed, lambda: start(failing))
+                assert str(raised).startswith(printed) and word in str(raised) and "hunter2" not in str(raised), str(raised)
         foreign = OneLine()
         foreign.lines = [*whole, b'{"cmd":"latest"}']
         raised = raises("a line that no provider writes", provider.LogFailed, lambda: start(foreign))
@@ -775,9 +777,9 @@ def test_sample() -> None:
             size = random.choice([0, 1, 7, 64, 200])
             sample.add(listed[at : at + size])
             at += size
-        first, last, *kept = [name for name, _ in sample.all()]
-        assert (first, last, len(kept), len({*kept})) == ("0", "999", 64, 64), "a sample has the first, the last and 64 others"
-        counts.update(kept)
+        first, last, *stored = [name for name, _ in sample.all()]
+        assert (first, last, len(stored), len({*stored})) == ("0", "999", 64, 64), "a sample has the first, the last and 64 others"
+        counts.update(stored)
     parts = [sum(counts[f"{it}"] for it in range(begin, begin + 100)) for begin in range(0, 1000, 100)]
     # 1,920 in the mean. The standard deviation is 40.
     assert all(1720 < it < 2120 for it in parts), f"a sample prefers no operation: {parts}"

@@ -87,7 +87,7 @@ pub enum Cause {
     OtherPolicy = 80,
     /// No chain has the signed entry.
     Malformed = 81,
-    /// The signed entry and a kept one are evidence.
+    /// The signed entry and a stored one are evidence.
     Equivocation = 82,
     /// The chain has no entry at this epoch.
     UnknownEpoch = 83,

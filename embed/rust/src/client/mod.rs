@@ -1,4 +1,4 @@
-//! A client of a key directory that can't forget a step: it verifies signatures, the chain, VRF proofs, paths and the asked epoch.
+//! A client of a key directory that can't forget a step: it verifies signatures, the chain, VRF proofs, paths and the requested epoch.
 //!
 //! ```no_run
 //! # fn main() -> Result<(), Box<dyn std::error::Error>> {
@@ -40,7 +40,6 @@
 mod cause;
 mod causes;
 mod ecvrf;
-mod memory;
 mod policy;
 mod schemes;
 mod verdicts;
@@ -53,20 +52,18 @@ pub use policy::{Policy, PolicyError, PolicyOrDigest};
 pub use schemes::{Ecvrf, Ed25519, IndexScheme, Keys, SignatureScheme, SigningKey, VrfKey};
 pub use watched::{Alarm, Report, Trust, Watched};
 
-use crate::client_core::{self as core_calls, Array, Promise, RawWatch, Slice, Text, Why, NOWHERE};
+use crate::client_core::{self as core_calls, Array, Core, Promise, Received, Rules, Text, Why, NOWHERE};
 use crate::formats::NO_EVIDENCE;
 use crate::{convicts, link, Body, Error, EvidenceKind, Head, ENTRY_BYTES, MAX_NAME};
 use core::fmt;
 use core::num::NonZeroUsize;
 use core::time::Duration;
-use memory::{Memory, Watching};
 use policy::EpochClock;
 use std::boxed::Box;
 use std::collections::BTreeMap;
 use std::string::String;
 use std::sync::Arc;
 use std::time::{SystemTime, UNIX_EPOCH};
-use std::vec;
 use std::vec::Vec;
 use verdicts::part;
 
@@ -153,20 +150,15 @@ impl Comparison {
 /// A client of one directory.
 pub struct Client {
     keys: Keys,
-    digest: [u8; 32],
     epochs: Option<EpochClock>,
-    /// The policy's clock and the client's limits, before the time is known.
-    present: core_calls::Present,
-    promise: Promise,
     clock: Clock,
-    trust: Trust,
-    memory: Memory,
+    core: Core,
 }
 
 impl fmt::Debug for Client {
     fn fmt(&self, f: &mut fmt::Formatter<'_>) -> fmt::Result {
-        let kept = self.memory.kept.get().len();
-        f.debug_struct("Client").field("head", &self.head()).field("entries", &kept).finish_non_exhaustive()
+        let stored = self.core.stored.get().len();
+        f.debug_struct("Client").field("head", &self.head()).field("entries", &stored).finish_non_exhaustive()
     }
 }
 
@@ -178,7 +170,7 @@ impl Client {
     ///
     /// [`Cause::PolicyKeys`] if a key is not that of the policy document.
     pub fn new(keys: Keys, policy: impl Into<PolicyOrDigest>, settings: Settings) -> Result<Self, Refusal> {
-        let (digest, epochs, proofs_kept) = match policy.into() {
+        let (policy, epochs, proofs_kept) = match policy.into() {
             PolicyOrDigest::Policy(it) => {
                 keys.check(&it)?;
                 (it.digest(), it.clock(), it.proofs_kept())
@@ -188,12 +180,15 @@ impl Client {
         let Settings { max_age, skew, clock, trust } = settings;
         let (start, period) = epochs.map_or((0, 0), |it| (it.start, it.period.get()));
         let max_age = max_age.map_or(period.saturating_mul(2), |it| it.as_secs());
-        let has_clock = epochs.is_some().into();
-        let present = core_calls::Present { has_clock, start, period, max_age, skew: skew.as_secs(), time: 0 };
-        let promise = Promise { is_limited: proofs_kept.is_some().into(), seconds: proofs_kept.unwrap_or(0) };
-        let trust = trust.unwrap_or(Trust::NONE);
-        let memory = Memory { marks: vec![0; trust.auditors], ..Memory::default() };
-        Ok(Self { keys, digest, epochs, present, promise, clock, trust, memory })
+        let Trust { digest: trust, auditors, quorum } = trust.unwrap_or(Trust::NONE);
+        let rules = Rules {
+            policy,
+            trust,
+            clock: core_calls::Clock { is_there: epochs.is_some().into(), start, period, max_age, skew: skew.as_secs() },
+            promise: Promise { is_limited: proofs_kept.is_some().into(), seconds: proofs_kept.unwrap_or(0) },
+            quorum,
+        };
+        Ok(Self { keys, epochs, clock, core: Core::new(rules, auditors) })
     }
 
     /// Returns a client that goes on from the state of another one. Its marks are those of the state if that has the same trust document
@@ -228,11 +223,9 @@ impl Client {
         let mut client = Self::new(keys, policy, settings)?;
         let row = |it: &Head| core_calls::Head { is_there: 1, epoch: it.epoch, link: it.link };
         let rows: Vec<core_calls::Head> = heads.values().map(row).collect();
-        let (verdict, now) = (verdicts::of_entry(&client.keys, entry), client.now());
-        let (kept, watch) = (&mut client.memory.kept, RawWatch::default());
-        kept.reserve(1);
-        let told = core_calls::start(&client.digest, kept, &watch, &rows, least.get(), entry, verdict, now);
-        client.accepted(told, entry)?;
+        let received = client.received(entry, client.now());
+        let reported = client.core.start_by(least.get(), &rows, &received);
+        client.accepted(reported, entry)?;
         Ok(client)
     }
 }
@@ -253,20 +246,24 @@ impl Client {
     ///
     /// # Errors
     ///
-    /// [`Cause::CatchUpLength`], and then nothing is kept; else as [`Client::feed`].
+    /// [`Cause::CatchUpLength`], and then nothing is stored; else as [`Client::feed`].
     pub fn feed_catch_up(&mut self, catch_up: &[u8]) -> Result<Vec<Step>, Refusal> {
         let count = good(core_calls::catch_up(catch_up))?;
         self.feed(catch_up.chunks_exact(ENTRY_BYTES).take(count))
     }
 
     fn feed_one(&mut self, entry: &[u8]) -> Result<Step, Refusal> {
-        let (verdict, now) = (verdicts::of_entry(&self.keys, entry), self.now());
-        let Memory { kept, watching, marks, .. } = &mut self.memory;
-        kept.reserve(1);
-        let told = core_calls::feed(&self.digest, kept, &watching.raw().0, marks, entry, verdict, now);
-        self.accepted(told, entry)?;
-        let latest = self.memory.kept.get().last().ok_or(Cause::UnknownEpoch)?;
+        let received = self.received(entry, self.now());
+        self.core.stored.reserve(1);
+        let reported = core_calls::feed(&mut self.core, &received);
+        self.accepted(reported, entry)?;
+        let latest = self.core.stored.get().last().ok_or(Cause::UnknownEpoch)?;
         Ok(Step { epoch: epoch_of(latest), seen: Watched::of(latest.seen.into()) })
+    }
+
+    /// Returns an entry as the core takes it, with the verdict on its signature.
+    fn received<'a>(&self, entry: &'a [u8], time: u64) -> Received<'a> {
+        Received { entry: Text::of(entry), signature: verdicts::of_entry(&self.keys, entry), time }
     }
 
     /// Returns the refusal of a status, with what convicts together with an entry.
@@ -280,25 +277,25 @@ impl Client {
 
     fn evidence_of(&self, why: &Why, entry: &[u8]) -> Option<Evidence> {
         let (other, kind) = (entry.try_into().ok()?, EvidenceKind::of(why.kind)?);
-        let mine = if why.mine == NOWHERE { other } else { self.memory.kept.get().get(why.mine)?.entry };
+        let mine = if why.mine == NOWHERE { other } else { self.core.stored.get().get(why.mine)?.entry };
         Some(Evidence { mine, other, kind })
     }
 
-    /// Returns the entries that are kept, in the order of the chain.
+    /// Returns the entries that are stored, in the order of the chain.
     pub fn entries(&self) -> impl ExactSizeIterator<Item = &[u8; ENTRY_BYTES]> + '_ {
-        self.memory.kept.get().iter().map(|it| &it.entry)
+        self.core.stored.get().iter().map(|it| &it.entry)
     }
 
     /// Returns the head of the latest entry, None before the first.
     #[must_use]
     pub fn head(&self) -> Option<Head> {
-        let latest = self.memory.kept.get().last()?;
+        let latest = self.core.stored.get().last()?;
         Some(Head { epoch: epoch_of(latest), link: link(&latest.entry).ok()? })
     }
 
     /// Returns whether a head is one of the chain, as far as its entries are kept.
     pub fn compare(&self, head: &Head) -> Comparison {
-        Comparison::of(core_calls::compare(self.memory.kept.get(), head.epoch, &head.link).0)
+        Comparison::of(core_calls::compare(&self.core, head.epoch, &head.link).0)
     }
 
     /// Drops the entries before that of an auditor's head, if it is one of this chain: the auditor's chain has them. Epochs that are
@@ -306,8 +303,8 @@ impl Client {
     /// [`Settings::trust`] it only compares, since one auditor confirms nothing: call [`Client::mark`] and [`Client::drop_confirmed`].
     pub fn cover(&mut self, head: &Head) -> Comparison {
         let found = self.compare(head);
-        if found == Comparison::Equal && self.trust == Trust::NONE {
-            self.drop_by(&[head.epoch], 1);
+        if found == Comparison::Equal && self.core.rules.quorum == 0 {
+            self.core.cover_by(head.epoch, self.now());
         }
         found
     }
@@ -318,8 +315,7 @@ impl Client {
     ///
     /// [`Cause::EntryLength`], and [`Cause::Signature`] if the entry is not signed.
     pub fn evidence(&self, other_entry: &[u8]) -> Result<Option<Evidence>, Refusal> {
-        let verdict = verdicts::of_entry(&self.keys, other_entry);
-        let (status, why) = core_calls::evidence(self.memory.kept.get(), other_entry, verdict);
+        let (status, why) = core_calls::evidence(&self.core, &self.received(other_entry, 0));
         if status != NO_EVIDENCE {
             return good((status, self.evidence_of(&why, other_entry)));
         }
@@ -337,8 +333,7 @@ impl Client {
     ///
     /// [`Misuse::NoAuditor`] if the trust document has no such auditor.
     pub fn mark(&mut self, auditor: usize, head: &Head) -> Result<Comparison, Misuse> {
-        let Memory { kept, marks, .. } = &mut self.memory;
-        match core_calls::mark(kept.get(), marks, auditor, head.epoch, &head.link) {
+        match core_calls::mark(&mut self.core, auditor, head.epoch, &head.link) {
             found @ 1..=3 => Ok(Comparison::of(found)),
             _ => Err(Misuse::NoAuditor),
         }
@@ -347,19 +342,18 @@ impl Client {
     /// Returns the latest epoch that a quorum of the auditors confirms, None if there is none.
     #[must_use]
     pub fn confirmed(&self) -> Option<u64> {
-        let (status, epoch) = core_calls::confirmed(&self.memory.marks, self.trust.quorum);
+        let (status, epoch) = core_calls::confirmed(&self.core);
         (status == 0).then_some(epoch)
     }
 
-    /// Returns whether a quorum of the auditors confirms a kept epoch, for example that of [`Found`].
+    /// Returns whether a quorum of the auditors confirms a stored epoch, for example that of [`Found`].
     ///
     /// # Errors
     ///
     /// [`Cause::UnknownEpoch`] if the epoch is not kept.
     pub fn is_relied(&self, epoch: u64) -> Result<bool, Refusal> {
-        let kept = self.memory.kept.get();
-        let place = kept.binary_search_by_key(&epoch, epoch_of).unwrap_or(NOWHERE);
-        match core_calls::relied(kept, place, &self.memory.marks, self.trust.quorum) {
+        let place = self.core.stored.get().binary_search_by_key(&epoch, epoch_of).unwrap_or(NOWHERE);
+        match core_calls::relied(&self.core, place) {
             misuses::NOT_CONFIRMED => Ok(false),
             status => good((status, true)),
         }
@@ -368,44 +362,33 @@ impl Client {
     /// Drops the first epochs: those before the confirmed one, and before the first missing one that is not lost. Returns them. Each
     /// watched one that was not seen as the same leaves an alarm. No reply for a dropped epoch is accepted: ask for missing ones first.
     pub fn drop_confirmed(&mut self) -> Vec<u64> {
-        self.drop_by(&self.memory.marks.clone(), self.trust.quorum)
-    }
-
-    /// Drops the epochs before the one that a quorum of marks confirms.
-    fn drop_by(&mut self, marks: &[u64], quorum: usize) -> Vec<u64> {
-        let present = self.present(self.now());
-        let epochs: Vec<u64> = self.memory.kept.get().iter().map(epoch_of).collect();
-        let Memory { kept, watching, alarms, .. } = &mut self.memory;
-        alarms.reserve(epochs.len());
-        let (mut watch, mut changes) = watching.raw();
-        let (_, covered) = core_calls::cover(&present, &self.promise, kept, marks, quorum, &mut watch, &mut changes, alarms);
-        *watching = Watching::of(&watch, &changes);
+        let epochs: Vec<u64> = self.core.stored.get().iter().map(epoch_of).collect();
+        let covered = self.core.cover(self.now());
         epochs.into_iter().take(covered.epochs).collect()
     }
 }
 
 /// Lookups.
 impl Client {
-    /// Returns what a reply shows of a name, at the epoch that was asked for, or at the latest one if that is None.
+    /// Returns what a reply shows of a name, at the epoch that was requested, or at the latest one if that is None.
     ///
     /// # Errors
     ///
     /// The first cause in the order of `docs/FORMATS.md`, "A client's lookup".
     pub fn lookup(&mut self, name: impl AsRef<[u8]>, reply: &[u8], epoch: Option<u64>) -> Result<Found, Refusal> {
         let name = name.as_ref();
-        let needs = good(core_calls::reply_needs(self.memory.kept.get(), reply))?;
+        let needs = good(core_calls::reply_needs(&self.core, reply))?;
         let (now, verdicts) = (self.now(), verdicts::of_reply(&self.keys, name, reply, &needs));
         let asking = core_calls::Asking {
             name: Text::of(name),
             reply: Text::of(reply),
-            is_asked: epoch.is_some().into(),
+            is_requested: epoch.is_some().into(),
             epoch: epoch.unwrap_or(0),
+            time: now,
         };
-        let (present, mut shown) = (self.present(now), core_calls::Found::default());
-        let told = self.memory.marked(|kept, watch, changes| {
-            core_calls::lookup(&self.digest, &present, kept, watch, changes, &asking, &verdicts, &mut shown)
-        });
-        self.accepted(told, part(reply, needs.entry_start, ENTRY_BYTES))?;
+        let mut shown = core_calls::Found::default();
+        let reported = core_calls::lookup(&mut self.core, &asking, &verdicts, &mut shown);
+        self.accepted(reported, part(reply, needs.entry_start, ENTRY_BYTES))?;
         let key = (shown.shows == SHOWS_KEY).then(|| Arc::from(part(reply, shown.key_start, shown.key_length)));
         Ok(self.found(shown.place, key, shown.seen, now)?)
     }
@@ -414,7 +397,7 @@ impl Client {
     ///
     /// # Errors
     ///
-    /// The first cause in the order of `docs/FORMATS.md`: of the bytes, of the VRF proof, of the steps. Nothing is kept then.
+    /// The first cause in the order of `docs/FORMATS.md`: of the bytes, of the VRF proof, of the steps. Nothing is stored then.
     pub fn history(&mut self, name: impl AsRef<[u8]>, history: &[u8]) -> Result<Vec<Found>, Refusal> {
         let name = name.as_ref();
         let needs = good(core_calls::history_needs(history))?;
@@ -422,13 +405,12 @@ impl Client {
         let (now, verdicts) = (self.now(), verdicts::of_index(&self.keys, name, proof));
         let asking = core_calls::History { name: Text::of(name), history: Text::of(history) };
         let mut siblings = core_calls::Siblings { strings: [[0; 32]; 256] };
-        let mut steps = vec![core_calls::Step::default(); self.memory.kept.get().len() + 1];
-        let told = self.memory.marked(|kept, watch, changes| {
-            core_calls::history(kept, watch, changes, &asking, &verdicts, &mut siblings, &mut steps)
-        });
-        steps.truncate(good(told)?);
+        let mut steps = Array::default();
+        steps.reserve(self.core.stored.get().len() + 1);
+        let status = core_calls::history(&mut self.core, &asking, &verdicts, &mut siblings, &mut steps);
+        good((status, ()))?;
         let mut last: (&[u8], Arc<[u8]>) = (&[], Arc::default());
-        let found = steps.iter().map(|it| {
+        let found = steps.get().iter().map(|it: &core_calls::Step<'_>| {
             // A key that a history repeats is one allocation, however long it is.
             let key = it.key.get();
             if key.as_ptr_range() != last.0.as_ptr_range() {
@@ -440,19 +422,15 @@ impl Client {
     }
 
     fn found(&self, place: usize, key: Option<Arc<[u8]>>, seen: u32, now: u64) -> Result<Found, Cause> {
-        let kept = self.memory.kept.get().get(place).ok_or(Cause::UnknownEpoch)?;
-        let epoch = epoch_of(kept);
+        let stored = self.core.stored.get().get(place).ok_or(Cause::UnknownEpoch)?;
+        let epoch = epoch_of(stored);
         let age = self.epochs.map(|it| it.age(epoch, now));
-        Ok(Found { epoch, key, seen: Watched::of(seen), age, first_seen: u64::from_be_bytes(kept.first_seen) })
+        Ok(Found { epoch, key, seen: Watched::of(seen), age, first_seen: u64::from_be_bytes(stored.first_seen) })
     }
 
     /// Returns the time, in whole seconds.
     fn now(&self) -> u64 {
         (self.clock)().as_secs()
-    }
-
-    fn present(&self, time: u64) -> core_calls::Present {
-        core_calls::Present { time, ..self.present }
     }
 }
 
@@ -469,13 +447,7 @@ impl Client {
         if matches!(key, Some([])) && (1..=MAX_NAME).contains(&name.len()) {
             return Err(Misuse::KeyLength);
         }
-        let (name, key) = (Text::of(name), Text::of(key.unwrap_or_default()));
-        let wanted = RawWatch { is_watched: 1, name, since: since.unwrap_or(0), key };
-        let Memory { kept, watching, .. } = &mut self.memory;
-        let (mut watch, changes) = watching.raw();
-        Misuse::of(core_calls::watch(kept.get_mut(), &mut watch, changes.get(), &wanted, since.is_some().into()))?;
-        *watching = Watching::of(&watch, &changes);
-        Ok(())
+        Misuse::of(self.core.watch(name, key.unwrap_or_default(), since))
     }
 
     /// Expects the owner's own change of the key: later epochs may show the old or the new key, and from epoch `by` on only the
@@ -486,15 +458,10 @@ impl Client {
     /// [`Misuse`] if no name is watched, while another change is open, and if key or epoch do not change anything. A change is open
     /// until the chain has its epoch `by` or a later one, or an epoch showed its key.
     pub fn expect(&mut self, new_key: Option<&[u8]>, by: u64) -> Result<(), Misuse> {
-        let Memory { kept, watching, .. } = &mut self.memory;
-        if matches!(new_key, Some([])) && watching.is_there() {
+        if matches!(new_key, Some([])) && self.core.is_watching() {
             return Err(Misuse::KeyLength);
         }
-        let (watch, mut changes) = watching.raw();
-        changes.reserve(1);
-        Misuse::of(core_calls::expect(kept.get(), &watch, &mut changes, new_key.unwrap_or_default(), by))?;
-        *watching = Watching::of(&watch, &changes);
-        Ok(())
+        Misuse::of(self.core.expect(new_key.unwrap_or_default(), by))
     }
 
     /// Returns the epochs that must show the watched name, and of which no reply was accepted.
@@ -507,14 +474,14 @@ impl Client {
     /// longer be verified, never that they are the same.
     #[must_use]
     pub fn lost(&self) -> Vec<u64> {
-        let (present, kept) = (self.present(self.now()), self.memory.kept.get());
-        self.missing_where(|place| core_calls::lost(&present, &self.promise, kept, place) == 1)
+        let now = self.now();
+        self.missing_where(|place| core_calls::lost(&self.core, now, place) == 1)
     }
 
     /// Returns the missing epochs at some of the places.
     fn missing_where(&self, is_wanted: impl Fn(usize) -> bool) -> Vec<u64> {
-        let kept = self.memory.kept.get().iter().enumerate();
-        let missing = kept.filter(|(_, it)| Watched::of(it.seen.into()) == Some(Watched::Missing));
+        let stored = self.core.stored.get().iter().enumerate();
+        let missing = stored.filter(|(_, it)| Watched::of(it.seen.into()) == Some(Watched::Missing));
         missing.filter(|&(place, _)| is_wanted(place)).map(|(_, it)| epoch_of(it)).collect()
     }
 
@@ -522,13 +489,13 @@ impl Client {
     #[must_use]
     pub fn alarms(&self) -> Vec<Alarm> {
         let alarm = |it: &core_calls::Alarm| Some(Alarm { epoch: it.epoch, seen: Watched::of(it.seen.into())? });
-        self.memory.alarms.get().iter().filter_map(alarm).collect()
+        self.core.alarms.get().iter().filter_map(alarm).collect()
     }
 
     /// Takes note of the alarms up to an epoch, which the owner has seen: they are dropped.
     pub fn note(&mut self, epoch: u64) {
         // There is always room for the alarms that there are.
-        let _status = core_calls::note(&mut self.memory.alarms, epoch);
+        let _status = core_calls::note(&mut self.core, epoch);
     }
 
     /// Returns what to tell the owner of the watched name. Without [`Settings::trust`] it is never [`Report::Good`].
@@ -537,10 +504,7 @@ impl Client {
     ///
     /// [`Misuse::NotWatching`] if no name is watched.
     pub fn report(&self) -> Result<Report, Misuse> {
-        let Memory { kept, watching, alarms, marks } = &self.memory;
-        let (present, (watch, _)) = (self.present(self.now()), watching.raw());
-        let (kept, alarms, quorum) = (kept.get(), alarms.get(), self.trust.quorum);
-        let (status, report) = core_calls::report(&present, kept, &watch, &self.promise, alarms, marks, quorum);
+        let (status, report) = core_calls::report(&self.core, self.now());
         Misuse::of(status).map(|()| Report::of(&report))
     }
 
@@ -548,30 +512,13 @@ impl Client {
     /// the watched name.
     #[must_use]
     pub fn state(&self) -> Vec<u8> {
-        let Memory { kept, watching, alarms, marks } = &self.memory;
-        let (watch, changes) = watching.raw();
-        let (kept, changes, alarms) = (Slice::of(kept.get()), Slice::of(changes.get()), Slice::of(alarms.get()));
-        let saved = core_calls::Saved { kept, watch, changes, alarms, trust: self.trust.digest, marks: Slice::of(marks) };
-        // There are fewer than 2^32 epochs, changes, alarms and auditors, which memory could not hold. So both calls succeed.
-        let (_, size) = core_calls::state_size(&self.digest, &saved);
-        let mut state = vec![0; size];
-        let _written = core_calls::state_write(&self.digest, &saved, &mut state);
-        state
+        self.core.state()
     }
 
     fn take_state(&mut self, state: &[u8]) -> Result<(), Refusal> {
-        let needs = good(core_calls::state_needs(&self.digest, state))?;
+        let needs = good(core_calls::state_needs(&self.core, state))?;
         let verdicts = verdicts::of_state(&self.keys, state, &needs);
-        let Memory { kept, watching, alarms, marks } = &mut self.memory;
-        let (mut watch, mut changes) = (RawWatch::default(), Array::default());
-        kept.reserve(needs.kept);
-        changes.reserve(needs.changes);
-        alarms.reserve(needs.alarms);
-        let (policy, trust) = (&self.digest, &self.trust.digest);
-        let status = core_calls::state_read(policy, state, &verdicts, trust, kept, &mut watch, &mut changes, alarms, marks);
-        good((status, ()))?;
-        *watching = Watching::of(&watch, &changes);
-        Ok(())
+        good((self.core.read_state(state, &needs, &verdicts), ()))
     }
 }
 
@@ -583,7 +530,7 @@ fn good<T>((status, written): (u32, T)) -> Result<T, Refusal> {
     Err(Cause::of(status).into())
 }
 
-/// Returns the epoch of a kept entry.
-fn epoch_of(kept: &core_calls::Kept) -> u64 {
-    Body::of_entry(&kept.entry).map_or(0, |it| it.epoch)
+/// Returns the epoch of a stored entry.
+fn epoch_of(stored: &core_calls::StoredEntry) -> u64 {
+    Body::of_entry(&stored.entry).map_or(0, |it| it.epoch)
 }

@@ -17,7 +17,7 @@ pub(super) fn of_entry(keys: &Keys, entry: &[u8]) -> u32 {
 /// Returns the verdict on the signature of each entry of a state.
 pub(super) fn of_state(keys: &Keys, state: &[u8], needs: &StateNeeds) -> Vec<u32> {
     let start = |place: usize| needs.entry_start + place * needs.entry_step;
-    (0..needs.kept).map(|it| of_entry(keys, part(state, start(it), ENTRY_BYTES))).collect()
+    (0..needs.stored).map(|it| of_entry(keys, part(state, start(it), ENTRY_BYTES))).collect()
 }
 
 /// Returns the verdicts on the signature of a reply's entry, if it is needed, and on the VRF proof.

@@ -70,11 +70,11 @@ pub struct Alarm {
 pub enum Report {
     /// The epoch shows another key, or no key.
     Changed(u64),
-    /// The kept epoch is missing, and not lost.
+    /// The stored epoch is missing, and not lost.
     Missing(u64),
     /// The epoch is lost.
     Lost(u64),
-    /// No kept epoch is watched.
+    /// No stored epoch is watched.
     Unwatched,
     /// Each epoch shows the expected key, but no quorum confirms the latest one.
     Unconfirmed(u64, u64),

@@ -48,7 +48,7 @@ static jbyteArray array_of(JNIEnv *env, struct bytes bytes)
 static int ask(const struct call *it, jboolean is_index, struct bytes first, struct bytes second, coniks_bytes32 *index)
 {
     JNIEnv *env = it->env;
-    jbyteArray one, other, said = NULL;
+    jbyteArray one, other, message = NULL;
     jmethodID method;
     int is_valid;
     if ((*env)->ExceptionCheck(env) || (*env)->PushLocalFrame(env, 8))
@@ -57,10 +57,10 @@ static int ask(const struct call *it, jboolean is_index, struct bytes first, str
     one = method ? array_of(env, first) : NULL;
     other = one ? array_of(env, second) : NULL;
     if (other)
-        said = (*env)->CallObjectMethod(env, it->verdicts, method, is_index, one, other);
-    is_valid = !(*env)->ExceptionCheck(env) && said != NULL;
+        message = (*env)->CallObjectMethod(env, it->verdicts, method, is_index, one, other);
+    is_valid = !(*env)->ExceptionCheck(env) && message != NULL;
     if (is_valid)
-        (*env)->GetByteArrayRegion(env, said, 0, sizeof index->bytes, (jbyte *)index->bytes);
+        (*env)->GetByteArrayRegion(env, message, 0, sizeof index->bytes, (jbyte *)index->bytes);
     (*env)->PopLocalFrame(env, NULL);
     return is_valid;
 }
@@ -72,10 +72,9 @@ static int verify(void *bound, const uint8_t *body, const uint8_t *signature)
     return ask(((struct bound *)bound)->call, JNI_FALSE, first, second, &unused);
 }
 
-static int index_of(void *bound, const uint8_t *name, size_t name_length, const uint8_t *proof, size_t proof_length,
-                    coniks_bytes32 *index)
+static int index_of(void *bound, const coniks_client_proof *proof, coniks_bytes32 *index)
 {
-    const struct bytes first = {name, name_length}, second = {proof, proof_length};
+    const struct bytes first = {proof->name, proof->name_length}, second = {proof->proof, proof->proof_length};
     return ask(((struct bound *)bound)->call, JNI_TRUE, first, second, index);
 }
 
@@ -112,6 +111,8 @@ static void read_settings(const struct call *it, struct bound *bound, coniks_cli
 /* Makes a client from a state, from an entry that auditors have, or from neither. */
 static uint32_t make(const struct call *it)
 {
+    const coniks_client_vouching vouching = {at(it, 19), it->n[20], at(it, 21), it->n[22] / sizeof(coniks_client_head),
+                                             it->n[23]};
     struct bound *bound = malloc(sizeof *bound);
     coniks_client_settings settings;
     uint32_t status;
@@ -122,14 +123,37 @@ static uint32_t make(const struct call *it)
     if (it->n[17])
         status = coniks_client_resume(&bound->client, &settings, at(it, 17), it->n[18]);
     else if (it->n[19])
-        status = coniks_client_vouched(&bound->client, &settings, at(it, 19), it->n[20], at(it, 21),
-                                       it->n[22] / sizeof(coniks_client_head), it->n[23], at(it, 25));
+        status = coniks_client_vouched(&bound->client, &settings, &vouching, at(it, 25));
     else
         status = coniks_client_new(&bound->client, &settings);
     memcpy(at(it, 24), &bound, sizeof bound);
     if (status)
         free(bound);
     return status;
+}
+
+static uint32_t look_up(const struct call *it, coniks_client *client)
+{
+    const uint64_t *epoch = at(it, 5);
+    const coniks_asking asking = {at(it, 1), it->n[2], at(it, 3), it->n[4], epoch != NULL, epoch ? *epoch : 0, 0};
+    return coniks_client_lookup(client, &asking, at(it, 6), at(it, 7));
+}
+
+/* Writes the number of steps where why a call is refused would be. */
+static uint32_t go_through(const struct call *it, coniks_client *client)
+{
+    const coniks_history asking = {at(it, 1), it->n[2], at(it, 3), it->n[4]};
+    coniks_client_shown shown = {at(it, 6), it->n[5], 0};
+    const uint32_t status = coniks_client_history(client, &asking, &shown);
+    memcpy(at(it, 7), &shown.count, sizeof shown.count);
+    return status;
+}
+
+static uint32_t watch(const struct call *it, coniks_client *client)
+{
+    const uint64_t *since = at(it, 5);
+    const coniks_watch wanted = {1, at(it, 1), it->n[2], since ? *since : 0, at(it, 3), it->n[4]};
+    return coniks_client_watch(client, &wanted, since != NULL);
 }
 
 /* Makes a call. Its results are after what it is given, and why it is refused after these. */
@@ -142,8 +166,8 @@ static uint64_t call(const struct call *it, coniks_client *client, jint what)
     case TEXT: return coniks_client_text((uint32_t)n[1], at(it, 2), TEXT_BYTES);
     case CATCH_UP: return coniks_core_catch_up(at(it, 1), n[2], at(it, 3));
     case FEED: return coniks_client_feed(client, at(it, 1), n[2], at(it, 3), at(it, 4));
-    case LOOKUP: return coniks_client_lookup(client, at(it, 1), n[2], at(it, 3), n[4], at(it, 5), at(it, 6), at(it, 7));
-    case HISTORY: return coniks_client_history(client, at(it, 1), n[2], at(it, 3), n[4], at(it, 6), n[5], at(it, 7));
+    case LOOKUP: return look_up(it, client);
+    case HISTORY: return go_through(it, client);
     case LATEST: return coniks_client_latest(client, at(it, 1));
     case COUNT: return coniks_client_count(client);
     case ENTRY: return memcpy(at(it, 2), coniks_client_entry(client, n[1]), CONIKS_ENTRY_BYTES), 0;
@@ -153,7 +177,7 @@ static uint64_t call(const struct call *it, coniks_client *client, jint what)
     case CONFIRMED: return coniks_client_confirmed(client, at(it, 1));
     case RELIED: return coniks_client_relied(client, n[1]);
     case DROP: return coniks_client_drop(client, at(it, 1));
-    case WATCH: return coniks_client_watch(client, at(it, 1), n[2], at(it, 3), n[4], at(it, 5));
+    case WATCH: return watch(it, client);
     case EXPECT: return coniks_client_expect(client, at(it, 1), n[2], n[3]);
     case MISSING: return coniks_client_missing(client, at(it, 2), n[1]);
     case LOST: return coniks_client_lost(client, at(it, 2), n[1]);

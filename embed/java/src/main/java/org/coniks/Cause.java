@@ -85,7 +85,7 @@ public enum Cause {
     OTHER_POLICY(80),
     /** No chain has the signed entry. */
     MALFORMED(81),
-    /** The signed entry and a kept one are evidence. */
+    /** The signed entry and a stored one are evidence. */
     EQUIVOCATION(82),
     /** The chain has no entry at this epoch. */
     UNKNOWN_EPOCH(83),

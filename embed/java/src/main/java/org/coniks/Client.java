@@ -162,7 +162,7 @@ public final class Client implements AutoCloseable {
      *
      * @param catchUp the bytes
      * @return a step for each entry
-     * @throws Refusal if these are no catch-up, and then nothing is kept; else as {@link #feed} does
+     * @throws Refusal if these are no catch-up, and then nothing is stored; else as {@link #feed} does
      */
     public List<Step> feedCatchUp(byte[] catchUp) throws Refusal {
         byte[] given = catchUp.clone();
@@ -260,7 +260,7 @@ public final class Client implements AutoCloseable {
     }
 
     /**
-     * Returns the entries that are kept.
+     * Returns the entries that are stored.
      *
      * @return the 209 bytes of each, in the order of the chain
      */
@@ -316,7 +316,7 @@ public final class Client implements AutoCloseable {
     }
 
     /**
-     * Returns whether a quorum of the auditors confirms a kept epoch.
+     * Returns whether a quorum of the auditors confirms a stored epoch.
      *
      * @param epoch the epoch, for example that of what was found
      * @return whether the client may rely on what it shows

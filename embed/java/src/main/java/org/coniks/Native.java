@@ -84,8 +84,8 @@ final class Native implements Runnable {
     synchronized ByteBuffer checked(Result result) throws Refusal {
         if (result.value == 0) return result.out;
         Result text = call(Call.TEXT, 0, null, TEXT, result.value);
-        String said = StandardCharsets.US_ASCII.decode(text.out.limit(text.out.position() + (int) text.value)).toString();
-        throw Refusal.of((int) result.value, said, result.out.position(result.why));
+        String message = StandardCharsets.US_ASCII.decode(text.out.limit(text.out.position() + (int) text.value)).toString();
+        throw Refusal.of((int) result.value, message, result.out.position(result.why));
     }
 
     private static long time(LongSupplier clock) { return Math.max(0, clock.getAsLong()); }

@@ -12,11 +12,11 @@ public record Report(Verdict verdict, long first, long last) {
     public enum Verdict {
         /** The epoch shows another key, or no key. */
         CHANGED,
-        /** The kept epoch is missing, and not lost. */
+        /** The stored epoch is missing, and not lost. */
         MISSING,
         /** The epoch is lost: the policy promises no proof of it any more. */
         LOST,
-        /** No kept epoch is watched. */
+        /** No stored epoch is watched. */
         UNWATCHED,
         /** Each epoch shows the expected key, but no quorum of auditors confirms the latest one. */
         UNCONFIRMED,

@@ -175,15 +175,15 @@ public final class Answers {
         Answers it = new Answers();
         BufferedReader lines = new BufferedReader(new InputStreamReader(System.in, StandardCharsets.US_ASCII));
         for (String line; (line = lines.readLine()) != null;) {
-            String said;
+            String printed;
             try {
-                said = it.answer(line.split(" "));
+                printed = it.answer(line.split(" "));
             } catch (Refusal refusal) {
-                said = refused(refusal);
+                printed = refused(refusal);
             } catch (IllegalArgumentException | IllegalStateException misuse) {
-                said = "misuse";
+                printed = "misuse";
             }
-            System.out.println(said);
+            System.out.println(printed);
         }
     }
 }

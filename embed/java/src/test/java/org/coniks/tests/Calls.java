@@ -325,13 +325,13 @@ public final class Calls {
     /** A scheme or a clock that calls its client, or closes it, gets an exception. */
     private void reentry() throws Exception {
         AtomicReference<Client> own = new AtomicReference<>();
-        List<String> said = new ArrayList<>();
+        List<String> printed = new ArrayList<>();
         var calls = new LinkedHashMap<>(calls());
         calls.put("close", Client::close);
         Runnable all = () -> {
             for (var call : calls.entrySet()) {
                 IllegalStateException error = throwing(IllegalStateException.class, () -> call.getValue().accept(own.get()));
-                said.add(error == null ? call.getKey() : error.getMessage());
+                printed.add(error == null ? call.getKey() : error.getMessage());
             }
         };
         Settings settings = settings().signatures((body, signature) -> {
@@ -341,7 +341,7 @@ public final class Calls {
         Client client = fed(settings);
         own.set(client);
         client.evidence(entries().get(1));
-        same(Collections.nCopies(calls.size(), "a scheme or a clock must not call its client"), said);
+        same(Collections.nCopies(calls.size(), "a scheme or a clock must not call its client"), printed);
         same(2, client.entries().size());
         Client of = fed(settings().clock(() -> own.get().entries().size() == 2 ? now.get() : 0));
         own.set(of);
@@ -459,13 +459,13 @@ public final class Calls {
         Field inC = Client.class.getDeclaredField("inC"), address = Class.forName("org.coniks.Native").getDeclaredField("client");
         inC.setAccessible(true);
         address.setAccessible(true);
-        Object kept = inC.get(circular());
+        Object stored = inC.get(circular());
         long limit = System.nanoTime() + 20_000_000_000L;
-        while (address.getLong(kept) != 0 && System.nanoTime() < limit) {
+        while (address.getLong(stored) != 0 && System.nanoTime() < limit) {
             System.gc();
             Thread.sleep(10);
         }
-        same(0L, address.getLong(kept));
+        same(0L, address.getLong(stored));
     }
 
     private Client circular() throws Exception {
@@ -603,10 +603,10 @@ public final class Calls {
     private void misuse() throws Exception {
         Client client = fed(settings());
         Head head = client.head().orElseThrow();
-        said("no name is watched: watch one first", throwing(IllegalStateException.class, client::report));
-        said("no name is watched: watch one first", throwing(IllegalStateException.class, () -> client.expect(some(NEW_KEY), 3)));
-        said("a name has 1 to 255 bytes", throwing(IllegalArgumentException.class, () -> client.watch("", some(KEY))));
-        said("a name has 1 to 255 bytes", throwing(IllegalArgumentException.class, () -> client.watch("a".repeat(256), some(KEY))));
+        hasMessage("no name is watched: watch one first", throwing(IllegalStateException.class, client::report));
+        hasMessage("no name is watched: watch one first", throwing(IllegalStateException.class, () -> client.expect(some(NEW_KEY), 3)));
+        hasMessage("a name has 1 to 255 bytes", throwing(IllegalArgumentException.class, () -> client.watch("", some(KEY))));
+        hasMessage("a name has 1 to 255 bytes", throwing(IllegalArgumentException.class, () -> client.watch("a".repeat(256), some(KEY))));
         throwing(IllegalArgumentException.class, () -> client.watch("alice", some()));
         throwing(IllegalArgumentException.class, () -> client.watch("\ud800", some(KEY)));
         throwing(IllegalArgumentException.class, () -> client.lookup("\udc00a", read("reply")));
@@ -616,14 +616,14 @@ public final class Calls {
         throwing(IllegalStateException.class, () -> client.watch("alice", some(OTHER_KEY)));
         throwing(IllegalStateException.class, () -> client.watch("alice", Optional.empty()));
         throwing(IllegalStateException.class, () -> client.watch(ALICE, some(KEY), OptionalLong.of(1)));
-        said("the new key is the one that is expected already",
+        hasMessage("the new key is the one that is expected already",
                 throwing(IllegalArgumentException.class, () -> client.expect(some(KEY), 3)));
         throwing(IllegalArgumentException.class, () -> client.expect(some(NEW_KEY), 2));
         throwing(IllegalArgumentException.class, () -> client.expect(some(), 3));
         client.expect(Optional.empty(), -1);
         throwing(IllegalStateException.class, () -> client.expect(some(NEW_KEY), 4));
         for (int least : new int[] {0, -1, Integer.MIN_VALUE}) {
-            said("at least one auditor vouches for an entry", throwing(IllegalArgumentException.class,
+            hasMessage("at least one auditor vouches for an entry", throwing(IllegalArgumentException.class,
                     () -> Client.vouched(settings(), entries().get(1), Map.of("one", head), least)));
         }
         Map<String, Head> heads = new TreeMap<>();
@@ -637,7 +637,7 @@ public final class Calls {
                 () -> Client.vouched(settings(), entries().get(1), Map.of("one", new Head(2, new Bytes(new byte[32]))), 1));
     }
 
-    private void said(String wanted, Throwable error) { same(wanted, error == null ? null : error.getMessage()); }
+    private void hasMessage(String wanted, Throwable error) { same(wanted, error == null ? null : error.getMessage()); }
 
     /** A refusal has its text, its number and its evidence. */
     private void refusals() throws Exception {
