@@ -125,8 +125,8 @@ def lines_after_restoring(size: Size) -> Iterator[dict[str, Any]]:
     yield from with_indices(lookups(size, RESTORED + 1, size.names))
 
 
-def with_indices(asked: Iterator[dict[str, Any]]) -> Iterator[dict[str, Any]]:
-    for it in asked:
+def with_indices(requested: Iterator[dict[str, Any]]) -> Iterator[dict[str, Any]]:
+    for it in requested:
         yield {**it, "index": index_of(it["name"])}
 
 

@@ -52,7 +52,7 @@ def refused(name: str, status: Optional[int] = None, evidence: Optional[list[Any
 
 
 @dataclass
-class Kept:
+class StoredEntry:
     """An entry that was accepted, when that was, and what was seen of the watched name."""
 
     entry: Entry
@@ -102,7 +102,7 @@ class Watch:
         return replace(self, changes=(*self.changes[:begun], marked, *self.changes[begun + 1 :]))
 
     def without(self, oldest: int) -> Watch:
-        """The watch without the changes that have begun at the oldest kept epoch."""
+        """The watch without the changes that have begun at the oldest stored epoch."""
         return replace(self, key=self.key_of(oldest), changes=self.changes[self.begun(oldest) :])
 
     @property
@@ -153,7 +153,7 @@ class Client:
             raise Misuse("the bytes are no policy document") from None
         self.signing, self.vrf = signing_key, vrf_key
         self.max_age, self.skew = 2 * self.policy.period if max_age is None else max_age, skew
-        self.kept: list[Kept] = []
+        self.stored: list[StoredEntry] = []
         self.watched: Optional[Watch] = None
         self.trust, self.marks, self.alarms = trust, [0] * trust.auditors, list[Alarm]()
         if not curve.is_key(signing_key):
@@ -166,11 +166,11 @@ class Client:
     # The chain.
 
     @property
-    def latest(self) -> Optional[Kept]:
-        return self.kept[-1] if self.kept else None
+    def latest(self) -> Optional[StoredEntry]:
+        return self.stored[-1] if self.stored else None
 
-    def at(self, epoch: int) -> Optional[Kept]:
-        return next((it for it in self.kept if it.entry.epoch == epoch), None)
+    def at(self, epoch: int) -> Optional[StoredEntry]:
+        return next((it for it in self.stored if it.entry.epoch == epoch), None)
 
     def verified(self, whole: bytes) -> Entry:
         """An entry that is the signer's."""
@@ -192,7 +192,7 @@ class Client:
 
     def convict(self, entry: Entry) -> Optional[list[Any]]:
         """The kind of the evidence with the first entry that convicts with this one, and its epoch; None for itself."""
-        for it in self.kept:
+        for it in self.stored:
             found = kind(it.entry.whole, entry.whole)
             if found:
                 return [found, it.entry.epoch]
@@ -213,8 +213,8 @@ class Client:
             evidence = self.convict(entry)
             raise refused("Equivocation", NUMBERS[fault], evidence) if evidence else refused(fault)
         is_watched = self.watched is not None and entry.epoch >= self.watched.since
-        self.kept.append(Kept(entry, now, MISSING if is_watched else UNWATCHED))
-        return [entry.epoch, SEEN[self.kept[-1].seen]]
+        self.stored.append(StoredEntry(entry, now, MISSING if is_watched else UNWATCHED))
+        return [entry.epoch, SEEN[self.stored[-1].seen]]
 
     def is_signed_again(self, entry: Entry) -> bool:
         """Whether it has the body of the latest entry, and other bytes."""
@@ -235,7 +235,7 @@ class Client:
             raise refused("AuditorsDiffer")
         if len(there) < least:
             raise refused("NotVouched")
-        self.kept = [Kept(entry, now)]
+        self.stored = [StoredEntry(entry, now)]
 
     def head(self) -> Answer:
         last = self.latest
@@ -247,7 +247,7 @@ class Client:
         there = self.at(epoch)
         if there:
             return {"compare": "equal" if there.entry.link == link else "differs"}
-        is_covered = any(epoch in covered(it.entry) for it in self.kept)
+        is_covered = any(epoch in covered(it.entry) for it in self.stored)
         return {"compare": "differs" if is_covered else "unknown"}
 
     def evidence(self, whole: bytes) -> Answer:
@@ -287,24 +287,24 @@ class Client:
         """Drops the first epochs that need not stay."""
         return self.dropped(self.droppable(now, self.confirmed_epoch))
 
-    def dropped(self, gone: Sequence[Kept]) -> Answer:
+    def dropped(self, gone: Sequence[StoredEntry]) -> Answer:
         """Drops the first epochs, with an alarm of each that was not seen as the same, and old changes."""
         self.alarms += [Alarm(it.entry.epoch, it.seen) for it in gone if self.is_watched(it) and it.seen != SAME]
-        self.kept = self.kept[len(gone) :]
-        if self.watched and self.kept:
-            self.watched = self.watched.without(self.kept[0].entry.epoch)
+        self.stored = self.stored[len(gone) :]
+        if self.watched and self.stored:
+            self.watched = self.watched.without(self.stored[0].entry.epoch)
         return {"cover": [it.entry.epoch for it in gone]}
 
-    def droppable(self, now: int, confirmed: Optional[int]) -> list[Kept]:
+    def droppable(self, now: int, confirmed: Optional[int]) -> list[StoredEntry]:
         """The epochs before the first one that must stay. None is dropped if none must."""
         lost = self.lost(now)["lost"]
         if confirmed is None:
             return []
-        must_stay = [it.entry.epoch >= confirmed or (it.seen == MISSING and it.entry.epoch not in lost) for it in self.kept]
-        return self.kept[: must_stay.index(True)] if any(must_stay) else []
+        must_stay = [it.entry.epoch >= confirmed or (it.seen == MISSING and it.entry.epoch not in lost) for it in self.stored]
+        return self.stored[: must_stay.index(True)] if any(must_stay) else []
 
-    def is_watched(self, kept: Kept) -> bool:
-        return self.watched is not None and kept.entry.epoch >= self.watched.since
+    def is_watched(self, stored: StoredEntry) -> bool:
+        return self.watched is not None and stored.entry.epoch >= self.watched.since
 
     def note(self, epoch: int) -> Answer:
         """The owner takes note of the alarms up to an epoch."""
@@ -322,19 +322,19 @@ class Client:
         for what, epochs in self.faults(now).items():
             if epochs:
                 return {"report": [what, epochs[0]]}
-        watched = [it.entry.epoch for it in self.kept if self.is_watched(it)]
+        watched = [it.entry.epoch for it in self.stored if self.is_watched(it)]
         if not watched:
             return {"report": ["unwatched"]}
         is_good = self.confirmed_epoch is not None and watched[-1] <= self.confirmed_epoch
         return {"report": ["good" if is_good else "unconfirmed", watched[0], watched[-1]]}
 
     def faults(self, now: int) -> dict[str, list[int]]:
-        """The epochs that are not the same, those of alarms before kept ones, by what is reported of them."""
+        """The epochs that are not the same, those of alarms before stored ones, by what is reported of them."""
         alarms = [(it.epoch, it.seen) for it in self.alarms]
-        kept = [(it.entry.epoch, it.seen) for it in self.kept if self.is_watched(it)]
-        missing, lost = [epoch for epoch, seen in kept if seen == MISSING], self.lost(now)["lost"]
+        stored = [(it.entry.epoch, it.seen) for it in self.stored if self.is_watched(it)]
+        missing, lost = [epoch for epoch, seen in stored if seen == MISSING], self.lost(now)["lost"]
         return {
-            "changed": [epoch for epoch, seen in [*alarms, *kept] if seen in (CHANGED, ABSENT)],
+            "changed": [epoch for epoch, seen in [*alarms, *stored] if seen in (CHANGED, ABSENT)],
             "missing": [it for it in missing if it not in lost],
             "lost": [epoch for epoch, seen in alarms if seen == MISSING] + [it for it in missing if it in lost],
         }
@@ -343,33 +343,33 @@ class Client:
 
     def lookup(self, name: bytes, whole: bytes, epoch: Optional[int], now: int) -> Answer:
         reply = Reply(whole)
-        kept = self.entry_of(reply.entry, epoch)
+        stored = self.entry_of(reply.entry, epoch)
         if epoch is None:
-            self.check_age(kept, now)
+            self.check_age(stored, now)
         index = self.index(name, reply.vrf)
-        return self.found(name, kept, self.key(name, kept, index, reply.proof), now)
+        return self.found(name, stored, self.key(name, stored, index, reply.proof), now)
 
-    def entry_of(self, whole: bytes, epoch: Optional[int]) -> Kept:
-        """The client's entry at the asked epoch, if the reply has it too, with whatever signature."""
-        if all(it.entry.whole != whole for it in self.kept):
+    def entry_of(self, whole: bytes, epoch: Optional[int]) -> StoredEntry:
+        """The client's entry at the requested epoch, if the reply has it too, with whatever signature."""
+        if all(it.entry.whole != whole for it in self.stored):
             entry = self.signed(whole)
             evidence = self.convict(entry)
             if evidence:
                 raise refused("Equivocation", None, evidence)
-        kept = self.latest if epoch is None else self.at(epoch)
-        if kept is None:
+        stored = self.latest if epoch is None else self.at(epoch)
+        if stored is None:
             raise refused("UnknownEpoch")
-        if kept.entry.body != whole[:145]:
+        if stored.entry.body != whole[:145]:
             raise refused("OtherEpoch")
-        return kept
+        return stored
 
-    def age(self, kept: Kept, now: int) -> Optional[int]:
+    def age(self, stored: StoredEntry, now: int) -> Optional[int]:
         if self.policy.start is None:
             return None
-        return now - (self.policy.start + (kept.entry.epoch - 1) * self.policy.period)
+        return now - (self.policy.start + (stored.entry.epoch - 1) * self.policy.period)
 
-    def check_age(self, kept: Kept, now: int) -> None:
-        age = self.age(kept, now)
+    def check_age(self, stored: StoredEntry, now: int) -> None:
+        age = self.age(stored, now)
         if age is not None and age > self.max_age:
             raise refused("Stale")
         if age is not None and -age > self.skew:
@@ -381,31 +381,31 @@ class Client:
             raise refused("VrfProof")
         return output[:32]
 
-    def key(self, name: bytes, kept: Kept, index: bytes, proof: bytes) -> Optional[bytes]:
+    def key(self, name: bytes, stored: StoredEntry, index: bytes, proof: bytes) -> Optional[bytes]:
         try:
-            return judge(ProofOfBytes(proof), index, name, kept.entry.nonce, kept.entry.root)
+            return judge(ProofOfBytes(proof), index, name, stored.entry.nonce, stored.entry.root)
         except Fault as fault:
             raise refused(str(fault.answer["fault"]))
 
-    def found(self, name: bytes, kept: Kept, key: Optional[bytes], now: int) -> Answer:
+    def found(self, name: bytes, stored: StoredEntry, key: Optional[bytes], now: int) -> Answer:
         seen = None
-        if self.watched and name == self.watched.name and kept.entry.epoch >= self.watched.since:
-            after = self.watched.after(kept.entry.epoch, key or b"")
-            kept.seen = SAME if after else CHANGED if key else ABSENT
-            self.watched, seen = after or self.watched, SEEN[kept.seen]
+        if self.watched and name == self.watched.name and stored.entry.epoch >= self.watched.since:
+            after = self.watched.after(stored.entry.epoch, key or b"")
+            stored.seen = SAME if after else CHANGED if key else ABSENT
+            self.watched, seen = after or self.watched, SEEN[stored.seen]
         shown = None if key is None else key.hex()
-        return {"epoch": kept.entry.epoch, "key": shown, "seen": seen, "age": self.age(kept, now), "first_seen": kept.time}
+        return {"epoch": stored.entry.epoch, "key": shown, "seen": seen, "age": self.age(stored, now), "first_seen": stored.time}
 
     def history(self, name: bytes, whole: bytes, now: int) -> Answer:
         history = History(whole)
         index = self.index(name, history.vrf)
         keys = []
         for epoch, proof in history.steps:
-            kept = self.at(epoch)
-            if kept is None:
+            stored = self.at(epoch)
+            if stored is None:
                 raise refused("UnknownEpoch")
-            keys.append((kept, self.key(name, kept, index, proof)))
-        return {"found": [self.found(name, kept, key, now) for kept, key in keys]}
+            keys.append((stored, self.key(name, stored, index, proof)))
+        return {"found": [self.found(name, stored, key, now) for stored, key in keys]}
 
     # The watched name.
 
@@ -416,7 +416,7 @@ class Client:
             return self.watch_again(self.watched, name, key or b"", since)
         first = since if since is not None else self.latest.entry.epoch if self.latest else 1
         self.watched = Watch(name, first, key or b"")
-        for it in self.kept:
+        for it in self.stored:
             it.seen = MISSING if it.entry.epoch >= first else UNWATCHED
         return {"watch": first}
 
@@ -437,10 +437,10 @@ class Client:
         return {"expect": by}
 
     def missing(self) -> Answer:
-        return {"missing": [it.entry.epoch for it in self.kept if it.seen == MISSING]}
+        return {"missing": [it.entry.epoch for it in self.stored if it.seen == MISSING]}
 
     def lost(self, now: int) -> Answer:
-        pairs = [(it, following.entry.epoch) for it, following in zip(self.kept, self.kept[1:]) if it.seen == MISSING]
+        pairs = [(it, following.entry.epoch) for it, following in zip(self.stored, self.stored[1:]) if it.seen == MISSING]
         return {"lost": [it.entry.epoch for it, following in pairs if not self.policy.promises(following, now)]}
 
     # The state.
@@ -449,21 +449,21 @@ class Client:
     def state(self) -> bytes:
         alarms = [number(it.epoch, 8) + number(it.seen, 1) for it in self.alarms]
         marks = [number(it, 8) for it in self.marks]
-        body = number(VERSION, 1) + self.policy.digest + kept_bytes(self.kept)
+        body = number(VERSION, 1) + self.policy.digest + stored_bytes(self.stored)
         body += number(len(alarms), 4) + b"".join(alarms) + self.trust.digest + number(len(marks), 4) + b"".join(marks)
         body += watch_bytes(self.watched)
         return body + sha256(body)
 
     def resume(self, state: bytes) -> None:
         it = self.opened(state)
-        kept, alarms = kept_of(it), alarms_of(it)
+        stored, alarms = stored_of(it), alarms_of(it)
         trust = it.take(32, "StateForm")
         marks = [it.number(8, "StateForm") for _ in range(it.number(4, "StateForm"))]
         watched = watch_of(it)
-        if not it.is_over() or not all(fits(at, watched) for at in kept) or not all(is_alarm(at, watched) for at in alarms):
+        if not it.is_over() or not all(fits(at, watched) for at in stored) or not all(is_alarm(at, watched) for at in alarms):
             raise refused("StateForm")
-        self.check_chain([at.entry for at in kept])
-        self.kept, self.watched, self.alarms = kept, watched, alarms
+        self.check_chain([at.entry for at in stored])
+        self.stored, self.watched, self.alarms = stored, watched, alarms
         is_same = trust == self.trust.digest and len(marks) == self.trust.auditors
         self.marks = marks if is_same else [0] * self.trust.auditors
 
@@ -498,27 +498,29 @@ def fault_of(entry: Entry, before: Optional[Entry]) -> Optional[str]:
     return None
 
 
-def fits(kept: Kept, watched: Optional[Watch]) -> bool:
+def fits(stored: StoredEntry, watched: Optional[Watch]) -> bool:
     """Whether what was seen at an epoch can be."""
-    epoch = kept.entry.epoch
+    epoch = stored.entry.epoch
     if watched is None or epoch < watched.since:
-        return kept.seen == UNWATCHED
+        return stored.seen == UNWATCHED
     is_undecided = any(it.last_old < epoch < it.first_new for it in watched.changes)
-    return kept.seen in (CHANGED, ABSENT, MISSING) or (kept.seen == SAME and not is_undecided)
+    return stored.seen in (CHANGED, ABSENT, MISSING) or (stored.seen == SAME and not is_undecided)
 
 
 def sized(text: bytes, length: int) -> bytes:
     return number(len(text), length) + text
 
 
-def kept_bytes(kept: Sequence[Kept]) -> bytes:
+def stored_bytes(stored: Sequence[StoredEntry]) -> bytes:
     """Kept epochs in a state, after their number."""
-    return number(len(kept), 4) + b"".join(it.entry.whole + number(it.time, 8) + number(it.seen, 1) for it in kept)
+    return number(len(stored), 4) + b"".join(it.entry.whole + number(it.time, 8) + number(it.seen, 1) for it in stored)
 
 
-def kept_of(it: Reader) -> list[Kept]:
+def stored_of(it: Reader) -> list[StoredEntry]:
     count = it.number(4, "StateForm")
-    return [Kept(Entry(it.take(ENTRY, "StateForm")), it.number(8, "StateForm"), it.number(1, "StateForm")) for _ in range(count)]
+    return [
+        StoredEntry(Entry(it.take(ENTRY, "StateForm")), it.number(8, "StateForm"), it.number(1, "StateForm")) for _ in range(count)
+    ]
 
 
 def alarms_of(it: Reader) -> list[Alarm]:
@@ -612,7 +614,7 @@ def compared(client: Client, step: Answer, now: int) -> Answer:
     return client.compare(epoch, link) if step["do"] == "compare" else client.cover(epoch, link, now)
 
 
-def told(call: Callable[[], Answer]) -> Answer:
+def outcome(call: Callable[[], Answer]) -> Answer:
     """What a call returns, or its error as members."""
     try:
         return call()
@@ -639,7 +641,7 @@ def state_of(case: Answer) -> bytes:
     client, now = begun(case), case["now"]
     for step in case["steps"]:
         now = step.get("now", now)
-        told(lambda: stepped(client, step, now))
+        outcome(lambda: stepped(client, step, now))
     return client.state
 
 
@@ -651,12 +653,12 @@ def verdicts(case: Answer) -> Answer:
         made.append(begun(case))
         return {"begun": True}
 
-    answer = told(begin)
+    answer = outcome(begin)
     if not made:
         return {"begin": answer, "steps": [], "state": None}
     client, now = made[0], case["now"]
     answers = []
     for step in case["steps"]:
         now = step.get("now", now)
-        answers.append(told(lambda: stepped(client, step, now)))
+        answers.append(outcome(lambda: stepped(client, step, now)))
     return {"begin": answer, "steps": answers, "state": sha256(client.state).hex()}

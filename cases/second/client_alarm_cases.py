@@ -59,8 +59,8 @@ def made(name: str, steps: list[Answer], *wanted: str, directory: Directory = DA
 
 def watched(name: str, steps: list[Answer], *wanted: str, key: str = FIRST_KEY, since: int = 1, **more: Any) -> Answer:
     """A case that begins with a watch of alice, and with all entries."""
-    told = [f"watch {since}", " ".join(["fed", *(f"{it} missing" if it >= since else str(it) for it in ALL)])]
-    return made(name, [watch("alice", key, since), feed(*WORLD.entries()), *steps], *told, *wanted, **more)
+    reported = [f"watch {since}", " ".join(["fed", *(f"{it} missing" if it >= since else str(it) for it in ALL)])]
+    return made(name, [watch("alice", key, since), feed(*WORLD.entries()), *steps], *reported, *wanted, **more)
 
 
 def alarms() -> Iterator[Answer]:
@@ -73,20 +73,20 @@ def alarms() -> Iterator[Answer]:
 def marks() -> Iterator[Answer]:
     fed = feed(*WORLD.entries())
     heads = [fed, mark(0, 5), CONFIRMED, mark(1, 6), CONFIRMED, mark(2, 3), CONFIRMED, mark(3, 6), CONFIRMED]
-    told = ["confirmed", "mark equal", "confirmed", "mark equal", "confirmed 3", "mark equal", "confirmed 5"]
-    yield made("marks: three of four are a quorum", heads, "fed 1 2 3 5 6", "mark equal", *told)
+    reported = ["confirmed", "mark equal", "confirmed", "mark equal", "confirmed 3", "mark equal", "confirmed 5"]
+    yield made("marks: three of four are a quorum", heads, "fed 1 2 3 5 6", "mark equal", *reported)
     falls = [fed, *quorum(5), mark(0, 2), mark(1, 1), CONFIRMED]
     yield made("marks: an earlier head changes nothing", falls, "fed 1 2 3 5 6", *THREE_EQUAL, *["mark equal"] * 2, "confirmed 5")
     again = [fed, mark(1, 3), mark(1, 5), mark(1, 6), CONFIRMED]
     yield made("marks: one auditor is no quorum", again, "fed 1 2 3 5 6", *THREE_EQUAL, "confirmed")
     other = [fed, *quorum(3)[:2], mark(2, 5, sha256(b"link")), mark(2, 4, bytes(32)), mark(2, 7, WORLD.link(6)), CONFIRMED]
-    told = ["mark equal", "mark equal", "mark differs", "mark differs", "mark unknown", "confirmed"]
-    yield made("marks: heads that differ or are unknown", other, "fed 1 2 3 5 6", *told)
+    reported = ["mark equal", "mark equal", "mark differs", "mark differs", "mark unknown", "confirmed"]
+    yield made("marks: heads that differ or are unknown", other, "fed 1 2 3 5 6", *reported)
     yield made("marks: no such auditor", [fed, mark(4, 3)], "fed 1 2 3 5 6", "misuse")
     alone = watch("alice", SECOND_KEY), feed(*WORLD.entries()), lookup("alice", WORLD.reply("alice", 6))
     none = [*alone, mark(0, 6), CONFIRMED, cover(LATE), report(LATE)]
-    told = ["watch 1", GOES_ON, NEW, "misuse", "confirmed", "cover", "report lost 1"]
-    yield made("marks: without a trust document", none, *told, trust=None)
+    reported = ["watch 1", GOES_ON, NEW, "misuse", "confirmed", "cover", "report lost 1"]
+    yield made("marks: without a trust document", none, *reported, trust=None)
     few: list[tuple[int, int, list[Answer], str]] = [
         (2, 0, [mark(0, 3), mark(1, 5)], "confirmed 3"),
         (3, 0, [mark(0, 3), mark(2, 5)], "confirmed 3"),
@@ -95,8 +95,8 @@ def marks() -> Iterator[Answer]:
     ]
     for count, faulty, heads, wanted in few:
         trust = {**TRUST, "auditors": count, "faulty": faulty}
-        told = ["fed 1 2 3 5 6", *["mark equal"] * len(heads), wanted]
-        yield made(f"marks: {count} auditors, {faulty} faulty", [fed, *heads, CONFIRMED], *told, trust=trust)
+        reported = ["fed 1 2 3 5 6", *["mark equal"] * len(heads), wanted]
+        yield made(f"marks: {count} auditors, {faulty} faulty", [fed, *heads, CONFIRMED], *reported, trust=trust)
 
 
 def covers() -> Iterator[Answer]:
@@ -105,32 +105,32 @@ def covers() -> Iterator[Answer]:
     steps = [cover(LATE), REPORT, ALARMS]
     yield watched("alarms: nobody confirms an epoch", steps, "cover", "report missing 6", "alarms")
     steps = [*five, cover(end(2) - 1), ALARMS, cover(end(2)), ALARMS, cover(end(3)), ALARMS, cover(LATE), ALARMS]
-    told = ["cover", "alarms", "cover 1", "alarms 1 lost", "cover 2", "alarms 1 lost 2 lost", "cover 3"]
-    yield watched("alarms: lost epochs are dropped", steps, *THREE_EQUAL, *told, "alarms 1 lost 2 lost 3 lost")
+    reported = ["cover", "alarms", "cover 1", "alarms 1 lost", "cover 2", "alarms 1 lost 2 lost", "cover 3"]
+    yield watched("alarms: lost epochs are dropped", steps, *THREE_EQUAL, *reported, "alarms 1 lost 2 lost 3 lost")
     steps = [*quorum(6), *shown(1, 2), cover(EARLY), ALARMS, *shown(2, 3, 5), cover(EARLY), ALARMS, report(EARLY)]
-    told = [OLD, OLD, "cover 1 2", "alarms", "UnknownEpoch", OTHER, OTHER, "cover 3 5", "alarms 3 changed 5 changed"]
-    yield watched("alarms: another key", steps, *THREE_EQUAL, *told, "report changed 3")
+    reported = [OLD, OLD, "cover 1 2", "alarms", "UnknownEpoch", OTHER, OTHER, "cover 3 5", "alarms 3 changed 5 changed"]
+    yield watched("alarms: another key", steps, *THREE_EQUAL, *reported, "report changed 3")
     steps = [watch("dave", "key", 2), feed(*WORLD.entries()), *quorum(5), *looked_up("dave", 2, 3), cover(EARLY), ALARMS, REPORT]
-    told = ["watch 2", "fed 1 2 missing 3 missing 5 missing 6 missing", *THREE_EQUAL, "none absent", "none absent"]
-    yield made("alarms: no key", steps, *told, "cover 1 2 3", "alarms 2 absent 3 absent", "report changed 2")
+    reported = ["watch 2", "fed 1 2 missing 3 missing 5 missing 6 missing", *THREE_EQUAL, "none absent", "none absent"]
+    yield made("alarms: no key", steps, *reported, "cover 1 2 3", "alarms 2 absent 3 absent", "report changed 2")
     steps = [*five, *shown(2), cover(end(2)), ALARMS]
     yield watched("alarms: a missing epoch keeps later ones", steps, *THREE_EQUAL, OLD, "cover 1 2", "alarms 1 lost")
     steps = [*quorum(6), *shown(3), cover(end(2)), cover(end(3)), ALARMS]
-    told = [OTHER, "cover 1", "cover 2 3", "alarms 1 lost 2 lost 3 changed"]
-    yield watched("alarms: a lost epoch keeps none", steps, *THREE_EQUAL, *told)
+    reported = [OTHER, "cover 1", "cover 2 3", "alarms 1 lost 2 lost 3 changed"]
+    yield watched("alarms: a lost epoch keeps none", steps, *THREE_EQUAL, *reported)
     steps = [*quorum(6), cover(LATE), ALARMS, report(10**12), {"do": "missing"}]
-    told = ["cover 1 2 3 5", "alarms 1 lost 2 lost 3 lost 5 lost", "report missing 6", "missing 6"]
-    yield watched("alarms: the latest epoch is never lost", steps, *THREE_EQUAL, *told)
+    reported = ["cover 1 2 3 5", "alarms 1 lost 2 lost 3 lost 5 lost", "report missing 6", "missing 6"]
+    yield watched("alarms: the latest epoch is never lost", steps, *THREE_EQUAL, *reported)
     steps = [*five, cover(LATE), *shown(3), history("alice", WORLD.history("alice", 3, 5)), ALARMS]
-    told = ["cover 1 2 3", "UnknownEpoch", "UnknownEpoch", "alarms 1 lost 2 lost 3 lost"]
-    yield watched("alarms: a reply for an epoch that was dropped", steps, *THREE_EQUAL, *told)
+    reported = ["cover 1 2 3", "UnknownEpoch", "UnknownEpoch", "alarms 1 lost 2 lost 3 lost"]
+    yield watched("alarms: a reply for an epoch that was dropped", steps, *THREE_EQUAL, *reported)
     steps = [*five, cover(LATE), ALARMS, report(LATE)]
-    told = ["cover 1 2 3", "alarms 2 lost 3 lost", "report missing 6"]
-    yield watched("alarms: epochs that are not watched leave none", [*steps[:3], *shown(5), *steps[3:]], *THREE_EQUAL, NEW, *told,
+    reported = ["cover 1 2 3", "alarms 2 lost 3 lost", "report missing 6"]
+    yield watched("alarms: epochs that are not watched leave none", [*steps[:3], *shown(5), *steps[3:]], *THREE_EQUAL, NEW, *reported,
                   key=SECOND_KEY, since=2)  # fmt: skip
     steps = [feed(*WORLD.entries()), *five, cover(LATE), watch("alice", SECOND_KEY, 1), ALARMS, report(EARLY)]
-    told = ["fed 1 2 3 5 6", *THREE_EQUAL, "cover 1 2 3", "watch 1", "alarms", "report missing 5"]
-    yield made("alarms: a watch that begins after a cover", steps, *told)
+    reported = ["fed 1 2 3 5 6", *THREE_EQUAL, "cover 1 2 3", "watch 1", "alarms", "report missing 5"]
+    yield made("alarms: a watch that begins after a cover", steps, *reported)
     yield from policies()
 
 
@@ -140,16 +140,16 @@ def looked_up(name: str, *epochs: int) -> list[Answer]:
 
 def policies() -> Iterator[Answer]:
     """How long the policy promises proofs."""
-    for what, kept, clock, gone in [
+    for what, stored, clock, gone in [
         ("proofs are kept for ever", None, True, ""),
         ("no clock, and proofs are kept for ever", None, False, ""),
         ("no clock, and proofs are kept for a day", DAY, False, ""),
         ("no clock, and proofs are kept for 0 seconds", 0, False, " 1 2 3"),
     ]:
-        it = Directory.of(kept, has_clock=clock)
+        it = Directory.of(stored, has_clock=clock)
         steps = [*it.begin, *(mark(at, 5, it.world.link(5)) for at in range(3)), cover(LATE), report(LATE)]
-        told = ["watch 1", GOES_ON, *THREE_EQUAL, f"cover{gone}", "report missing 6" if gone else "report missing 1"]
-        yield made(f"alarms: {what}", steps, *told, directory=it)
+        reported = ["watch 1", GOES_ON, *THREE_EQUAL, f"cover{gone}", "report missing 6" if gone else "report missing 1"]
+        yield made(f"alarms: {what}", steps, *reported, directory=it)
 
 
 def over_changes() -> Iterator[Answer]:
@@ -157,27 +157,27 @@ def over_changes() -> Iterator[Answer]:
     world = World([(it, {"alice": key.encode()}) for it, key in enumerate("AABBB", 1)], policy=sha256(DAYS.policy.encode()))
     heads = [mark(it, 5, world.link(5)) for it in range(3)]
     begin = [watch("alice", "A", 1), feed(world[1]), expect("B", 4), feed(*world.entries(2, 3, 4, 5)), *heads]
-    told = ["watch 1", "fed 1 missing", "expect 4", "fed 2 missing 3 missing 4 missing 5 missing", *THREE_EQUAL]
+    reported = ["watch 1", "fed 1 missing", "expect 4", "fed 2 missing 3 missing 4 missing 5 missing", *THREE_EQUAL]
     look = {it: lookup("alice", world.reply("alice", it), it) for it in world.epochs}
     steps = [*begin, look[5], cover(end(5)), ALARMS, look[5], expect("C", 9), report(end(5)), note(4), report(end(5))]
     wanted = ["B same", "cover 1 2 3 4", "alarms 1 lost 2 lost 3 lost 4 lost", "B same", "expect 9", "report lost 1", "alarms"]
-    yield made("alarms: a change within lost epochs is dropped", steps, *told, *wanted, "report good 5 5", now=hour(5))
+    yield made("alarms: a change within lost epochs is dropped", steps, *reported, *wanted, "report good 5 5", now=hour(5))
     steps = [*begin, look[1], look[3], cover(end(3)), ALARMS, watch("alice", "A"), look[4], look[5], cover(end(3)), REPORT]
     wanted = ["A same", "B same", "cover 1 2 3", "alarms 2 lost", "misuse", "B same", "B same", "cover 4", "report lost 2"]
-    yield made("alarms: a change that a lost epoch may have begun", steps, *told, *wanted, now=hour(5))
+    yield made("alarms: a change that a lost epoch may have begun", steps, *reported, *wanted, now=hour(5))
     turning = World([(it, {"alice": key.encode()}) for it, key in enumerate("ABAB", 1)], policy=sha256(DAYS.policy.encode()))
     look = {it: lookup("alice", turning.reply("alice", it), it) for it in turning.epochs}
     begin = [watch("alice", "A", 1), feed(turning[1]), expect("B", 9), feed(*turning.entries(2, 3, 4)), look[1], look[2]]
-    told = ["watch 1", "fed 1 missing", "expect 9", "fed 2 missing 3 missing 4 missing", "A same", "B same"]
+    reported = ["watch 1", "fed 1 missing", "expect 9", "fed 2 missing 3 missing 4 missing", "A same", "B same"]
     heads = [mark(it, 4, turning.link(4)) for it in range(3)]
     back = [*begin, *heads, cover(end(2)), look[3], look[4], cover(end(2)), REPORT]
     wanted = [*THREE_EQUAL, "cover 1 2", "A changed", "B same", "cover 3", "report changed 3"]
-    yield made("alarms: the old key after a change that was dropped", back, *told, *wanted, now=hour(4))
+    yield made("alarms: the old key after a change that was dropped", back, *reported, *wanted, now=hour(4))
 
 
 def notes() -> Iterator[Answer]:
     begin = [*quorum(6), *shown(2, 3), cover(LATE)]
-    told = [*THREE_EQUAL, OLD, OTHER, "cover 1 2 3 5"]
+    reported = [*THREE_EQUAL, OLD, OTHER, "cover 1 2 3 5"]
     for what, steps, wanted in [
         ("one after another", [1, 3, 5], ["alarms 3 changed 5 lost", "alarms 5 lost", "alarms"]),
         ("all at once", [5], ["alarms"]),
@@ -186,10 +186,10 @@ def notes() -> Iterator[Answer]:
         ("of later epochs too", [2**64 - 1], ["alarms"]),
         ("twice", [1, 1], ["alarms 3 changed 5 lost"] * 2),
     ]:
-        yield watched(f"note: {what}", [*begin, *map(note, steps)], *told, *wanted)
+        yield watched(f"note: {what}", [*begin, *map(note, steps)], *reported, *wanted)
     early = [*quorum(6), note(6), cover(LATE), ALARMS]
-    told = ["alarms", "cover 1 2 3 5", "alarms 1 lost 2 lost 3 lost 5 lost"]
-    yield watched("note: before there is an alarm", early, *THREE_EQUAL, *told)
+    reported = ["alarms", "cover 1 2 3 5", "alarms 1 lost 2 lost 3 lost 5 lost"]
+    yield watched("note: before there is an alarm", early, *THREE_EQUAL, *reported)
     yield made("note: no name is watched", [note(9), ALARMS], "alarms", "alarms")
 
 
@@ -200,31 +200,42 @@ def reports() -> Iterator[Answer]:
     steps = [feed(*WORLD.entries()), watch("alice", FIRST_KEY, 7), *quorum(6), REPORT]
     yield made("report: no epoch is watched", steps, "fed 1 2 3 5 6", "watch 7", *THREE_EQUAL, "report unwatched")
     same = [*shown(3, 5, 6), REPORT, *quorum(5), REPORT, *quorum(6), REPORT, cover(EARLY), late]
-    told = [NEW, NEW, NEW, "report unconfirmed 3 6", *THREE_EQUAL, "report unconfirmed 3 6", *THREE_EQUAL, "report good 3 6"]
-    yield watched("report: confirmed or not", same, *told, "cover 1 2 3 5", "report good 6 6", key=SECOND_KEY, since=3)
-    kept = [REPORT, late, *shown(3), REPORT, *shown(6), REPORT]
-    told = ["report missing 1", "report missing 6", OTHER, "report changed 3", OTHER, "report changed 3"]
-    yield watched("report: what is kept", kept, *told)
+    reported = [NEW, NEW, NEW, "report unconfirmed 3 6", *THREE_EQUAL, "report unconfirmed 3 6", *THREE_EQUAL, "report good 3 6"]
+    yield watched("report: confirmed or not", same, *reported, "cover 1 2 3 5", "report good 6 6", key=SECOND_KEY, since=3)
+    stored = [REPORT, late, *shown(3), REPORT, *shown(6), REPORT]
+    reported = ["report missing 1", "report missing 6", OTHER, "report changed 3", OTHER, "report changed 3"]
+    yield watched("report: what is kept", stored, *reported)
     lost = [*shown(3, 6), report(end(5) - 1), report(end(6) - 1), report(LATE)]
-    told = [NEW, NEW, "report missing 5", "report missing 5", "report lost 5"]
-    yield watched("report: lost or not yet", lost, *told, key=SECOND_KEY, since=3)
+    reported = [NEW, NEW, "report missing 5", "report missing 5", "report lost 5"]
+    yield watched("report: lost or not yet", lost, *reported, key=SECOND_KEY, since=3)
     begin = [*quorum(5), *shown(1), cover(end(3)), ALARMS]
-    told = [*THREE_EQUAL, OLD, "cover 1 2", "alarms 2 lost"]
+    reported = [*THREE_EQUAL, OLD, "cover 1 2", "alarms 2 lost"]
     steps = [*begin, report(end(3)), *shown(3), report(end(3)), note(2), REPORT]
-    wanted = [*told, "report missing 3", OTHER, "report changed 3", "alarms", "report changed 3"]
+    wanted = [*reported, "report missing 3", OTHER, "report changed 3", "alarms", "report changed 3"]
     yield watched("report: a changed or missing epoch before an alarm of a lost one", steps, *wanted)
     steps = [*quorum(6), *shown(6), cover(LATE), late, note(3), late, note(5), late]
-    told = [NEW, "cover 3 5", "report lost 3", "alarms 5 lost", "report lost 5", "alarms", "report good 6 6"]
+    reported = [NEW, "cover 3 5", "report lost 3", "alarms 5 lost", "report lost 5", "alarms", "report good 6 6"]
     begin = [feed(*WORLD.entries()), *quorum(3), cover(EARLY), watch("alice", SECOND_KEY, 3)]
     front = ["fed 1 2 3 5 6", *THREE_EQUAL, "cover 1 2", "watch 3"]
-    yield made("report: alarms until they are noted", [*begin, *steps], *front, *THREE_EQUAL, *told)
+    yield made("report: alarms until they are noted", [*begin, *steps], *front, *THREE_EQUAL, *reported)
     steps = [*quorum(6), *shown(1, 2, 3, 5, 6), cover(EARLY), REPORT, note(3), REPORT, note(5), REPORT]
-    told = [OLD, OLD, OTHER, OTHER, OTHER, "cover 1 2 3 5", "report changed 3", "alarms 5 changed", "report changed 5", "alarms"]
-    yield watched("report: an alarm before a kept epoch", steps, *THREE_EQUAL, *told, "report changed 6")
+    reported = [
+        OLD,
+        OLD,
+        OTHER,
+        OTHER,
+        OTHER,
+        "cover 1 2 3 5",
+        "report changed 3",
+        "alarms 5 changed",
+        "report changed 5",
+        "alarms",
+    ]
+    yield watched("report: an alarm before a kept epoch", steps, *THREE_EQUAL, *reported, "report changed 6")
     steps = [*quorum(6), *shown(5, 6), cover(end(3)), ALARMS, report(end(5)), cover(end(5)), ALARMS, report(end(5))]
-    told = [NEW, NEW, "cover 1 2", "alarms 1 lost 2 lost", "report lost 1"]
+    reported = [NEW, NEW, "cover 1 2", "alarms 1 lost 2 lost", "report lost 1"]
     wanted = ["cover 3 5", "alarms 1 lost 2 lost 3 lost", "report lost 1"]
-    yield watched("report: an alarm before a kept epoch that is lost", steps, *THREE_EQUAL, *told, *wanted, key=SECOND_KEY)
+    yield watched("report: an alarm before a kept epoch that is lost", steps, *THREE_EQUAL, *reported, *wanted, key=SECOND_KEY)
 
 
 AGAIN = signed(WORLD[3][:145], nonce=7)
@@ -262,27 +273,27 @@ def signed_again() -> Iterator[Answer]:
 def again_in_turn() -> Iterator[Answer]:
     """What stays when the latest entry is signed again, and what does not."""
     three, again, after = feed(*WORLD.entries(1, 2, 3)), {**feed(AGAIN), "now": hour(5)}, feed(FIFTH)
-    begin, told = [watch("alice", SECOND_KEY, 3), {**three, "now": hour(3)}], ["watch 3", "fed 1 2 3 missing"]
+    begin, reported = [watch("alice", SECOND_KEY, 3), {**three, "now": hour(3)}], ["watch 3", "fed 1 2 3 missing"]
     steps = [*begin, *shown(3), again, {"do": "missing"}, *shown(3), lookup("alice", WORLD.reply("alice", 3, entry=AGAIN), 3)]
-    yield made("signed again: what was seen stays", steps, *told, NEW, "fed 3 same", "missing", NEW, NEW)
+    yield made("signed again: what was seen stays", steps, *reported, NEW, "fed 3 same", "missing", NEW, NEW)
     steps = [*begin, again, {"do": "missing"}, *shown(3), after]
-    yield made("signed again: a missing epoch stays missing", steps, *told, "fed 3 missing", "missing 3", NEW, "fed 5 missing")
+    yield made("signed again: a missing epoch stays missing", steps, *reported, "fed 3 missing", "missing 3", NEW, "fed 5 missing")
     changed = [watch("alice", FIRST_KEY, 3), three, *shown(3), again, REPORT]
-    yield made("signed again: a changed epoch stays", changed, *told, OTHER, "fed 3 changed", "report changed 3")
+    yield made("signed again: a changed epoch stays", changed, *reported, OTHER, "fed 3 changed", "report changed 3")
     heads = [mark(0, 2), *quorum(3)[1:], mark(3, 3)]
     steps = [*begin, *shown(3), *heads, CONFIRMED, REPORT, again, CONFIRMED, REPORT, mark(1, 3)]
-    told += [NEW, *["mark equal"] * 4, "confirmed 3", "report good 3 3", "fed 3 same", "confirmed", "report unconfirmed 3 3"]
+    reported += [NEW, *["mark equal"] * 4, "confirmed 3", "report good 3 3", "fed 3 same", "confirmed", "report unconfirmed 3 3"]
     steps += [mark(it, 3, link(AGAIN)) for it in (1, 2)] + [CONFIRMED]
     yield made(
-        "signed again: heads of the first signature", steps, *told, "mark differs", "mark equal", "mark equal", "confirmed 2"
+        "signed again: heads of the first signature", steps, *reported, "mark differs", "mark equal", "mark equal", "confirmed 2"
     )
     heads = [*quorum(2), mark(0, 3)]
     steps = [three, *heads, CONFIRMED, again, CONFIRMED, mark(0, 2), CONFIRMED, cover(EARLY)]
-    told = ["fed 1 2 3", *["mark equal"] * 4, "confirmed 2", "fed 3", "confirmed", "mark equal", "confirmed 2", "cover 1"]
-    yield made("signed again: heads of earlier epochs stay", steps, *told)
+    reported = ["fed 1 2 3", *["mark equal"] * 4, "confirmed 2", "fed 3", "confirmed", "mark equal", "confirmed 2", "cover 1"]
+    yield made("signed again: heads of earlier epochs stay", steps, *reported)
     steps = [three, *quorum(3), cover(EARLY), again, CONFIRMED, cover(EARLY), after, {"do": "head"}]
-    told = ["fed 1 2 3", *THREE_EQUAL, "cover 1 2", "fed 3", "confirmed", "cover", "fed 5", "head 5"]
-    yield made("signed again: the only entry that is left", steps, *told)
+    reported = ["fed 1 2 3", *THREE_EQUAL, "cover 1 2", "fed 3", "confirmed", "cover", "fed 5", "head 5"]
+    yield made("signed again: the only entry that is left", steps, *reported)
     late = vouched(WORLD[3], 1, (3, WORLD.link(3)))
     yield made("signed again: a late start", [again, after], "fed 3", "fed 5", **late)
 
@@ -297,7 +308,7 @@ BEGIN = [watch("alice", FIRST_KEY, 2), feed(*WORLD.entries()), *quorum(5), mark(
 STATE = state_after(BEGIN)
 LISTED = "alarms 2 lost 3 changed"
 # Where the parts of this state begin.
-KEPT, COUNT = 37, 37 + 2 * 218
+STORED, COUNT = 37, 37 + 2 * 218
 TRUSTED, MARKED = COUNT + 4 + 2 * 9, COUNT + 4 + 2 * 9 + 32
 WATCHED = MARKED + 4 + 4 * 8
 
@@ -305,8 +316,8 @@ WATCHED = MARKED + 4 + 4 * 8
 def states() -> Iterator[Answer]:
     """States that are resumed."""
     steps = [ALARMS, CONFIRMED, REPORT, {"do": "missing"}, note(3), report(LATE)]
-    told = [LISTED, "confirmed 5", "report changed 3", "missing 6", "alarms", "report changed 5"]
-    yield made("state with alarms: alarms, marks and all", steps, *told, state=STATE.hex())
+    reported = [LISTED, "confirmed 5", "report changed 3", "missing 6", "alarms", "report changed 5"]
+    yield made("state with alarms: alarms, marks and all", steps, *reported, state=STATE.hex())
     empty = state_after([])
     yield made(
         "state with alarms: of no entry", [ALARMS, CONFIRMED, feed(WORLD[1])], "alarms", "confirmed", "fed 1", state=empty.hex()
@@ -316,8 +327,8 @@ def states() -> Iterator[Answer]:
     yield made("state with alarms: the shortest one", [feed(WORLD[1])], "fed 1", state=shortest.hex(), trust=None)
     noted = state_after([*BEGIN, note(2)])
     steps = [ALARMS, *shown(6), mark(0, 6), mark(1, 6), cover(LATE), ALARMS]
-    told = ["alarms 3 changed", OTHER, "mark equal", "mark equal", "cover 5", "alarms 3 changed 5 changed"]
-    yield made("state with alarms: it goes on", steps, *told, state=noted.hex())
+    reported = ["alarms 3 changed", OTHER, "mark equal", "mark equal", "cover 5", "alarms 3 changed 5 changed"]
+    yield made("state with alarms: it goes on", steps, *reported, state=noted.hex())
     again = state_after([*BEGIN, feed(signed(WORLD[6][:145], nonce=7))])
     yield made(
         "state with alarms: an entry that was signed again",
@@ -390,8 +401,8 @@ def forged() -> Iterator[tuple[str, bytes, str]]:
         ("without a watch", STATE[:WATCHED] + bytes(32)),
         ("bytes follow", STATE[:-32] + b"\0" + bytes(32)),
         ("a watch of kind 2", edited(STATE, WATCHED, b"\2")),
-        ("seen 2", edited(STATE, KEPT + 217, b"\2")),
-        ("seen 0 of a watched epoch", edited(STATE, KEPT + 217, b"\0")),
+        ("seen 2", edited(STATE, STORED + 217, b"\2")),
+        ("seen 0 of a watched epoch", edited(STATE, STORED + 217, b"\0")),
         ("very many epochs", edited(STATE, 33, b"\xff" * 4)),
         ("the parts of version 02", STATE[:COUNT] + STATE[WATCHED:]),
         ("an alarm without a watched name, and no entry", with_alarm(state_after([]), 37)),
@@ -407,10 +418,10 @@ def with_alarm(state: bytes, place: int) -> bytes:
 
 def broken() -> Iterator[tuple[str, bytes, str]]:
     """States whose entries are no chain. The form comes first."""
-    other = edited(STATE, KEPT + 17, bytes(32))
+    other = edited(STATE, STORED + 17, bytes(32))
     yield "the root of an entry", renewed(other), "StateChain"
     yield "the root of an entry, signed", renewed(
-        edited(STATE, KEPT, resigned(STATE[KEPT : KEPT + 209], 17, bytes(32)))
+        edited(STATE, STORED, resigned(STATE[STORED : STORED + 209], 17, bytes(32)))
     ), "StateChain"
     yield "the last signature", renewed(edited(STATE, COUNT - 218 + 145, bytes(64))), "StateChain"
     yield "the root of an entry, and an alarm with the number 1", renewed(edited(other, COUNT + 12, b"\1")), "StateForm"

@@ -234,7 +234,7 @@ def replies() -> Iterator[Answer]:
     yield case("reply: before the first entry", [lookup("alice", good)], "UnknownEpoch")
     yield case("reply: an epoch before the first entry", [lookup("alice", good, 3)], "UnknownEpoch")
     yield case("reply: garbage before the first entry", [lookup("alice", flipped(good, 40))], "Signature")
-    asked: list[tuple[str, int, Optional[int], str]] = [
+    requested: list[tuple[str, int, Optional[int], str]] = [
         ("an old reply as the latest", 2, None, "OtherEpoch"),
         ("an old reply for a later epoch", 2, 3, "OtherEpoch"),
         ("a later reply for an old epoch", 3, 1, "OtherEpoch"),
@@ -243,11 +243,11 @@ def replies() -> Iterator[Answer]:
         ("a number without an epoch", 5, 4, "UnknownEpoch"),
         ("epoch 0", 1, 0, "UnknownEpoch"),
     ]
-    for what, epoch, number_asked, wanted in asked:
-        yield case(f"reply: {what}", [THREE, lookup("alice", WORLD.reply("alice", epoch), number_asked)], FED, wanted)
+    for what, epoch, number_requested, wanted in requested:
+        yield case(f"reply: {what}", [THREE, lookup("alice", WORLD.reply("alice", epoch), number_requested)], FED, wanted)
     parted = WORLD.reply("alice", 3, entry=resigned(WORLD[3], 17, sha256(b"root")))
-    for what, number_asked in [("an epoch that was not fed", 5), ("an older epoch", 1)]:
-        convicting = [THREE, lookup("alice", parted, number_asked)]
+    for what, number_requested in [("an epoch that was not fed", 5), ("an older epoch", 1)]:
+        convicting = [THREE, lookup("alice", parted, number_requested)]
         yield case(f"reply: what convicts, asked for {what}", convicting, FED, "Equivocation overlap 3")
 
 

@@ -35,8 +35,8 @@ def histories() -> Iterator[Answer]:
         yield case(f"history: {what}", [ALL, history("alice", text)], ALL_FED, wanted, now=hour(6))
     yield case("history: of bob", [ALL, history("alice", WORLD.history("bob", 1))], ALL_FED, "VrfProof", now=hour(6))
     yield case("history: an epoch that was not fed", [THREE, history("alice", WORLD.history("alice", 3, 5))], FED, "UnknownEpoch")
-    kept = [THREE, watch("alice", FIRST_KEY, 1), history("alice", WORLD.history("alice", 1, 2)[:-1] + b"!"), {"do": "missing"}]
-    yield case("history: one wrong proof, and nothing is kept", kept, FED, "watch 1", "RootMismatch", "missing 1 2 3")
+    stored = [THREE, watch("alice", FIRST_KEY, 1), history("alice", WORLD.history("alice", 1, 2)[:-1] + b"!"), {"do": "missing"}]
+    yield case("history: one wrong proof, and nothing is kept", stored, FED, "watch 1", "RootMismatch", "missing 1 2 3")
 
 
 def watch(name: str, key: Optional[str], since: Optional[int] = None) -> Answer:
@@ -186,7 +186,7 @@ def late_starts() -> Iterator[Answer]:
 
 def clocks() -> Iterator[Answer]:
     """Epoch 3 begins 7,200 seconds after the start, and is looked up at other times."""
-    asked, by_number = lookup("alice", WORLD.reply("alice", 3)), lookup("alice", WORLD.reply("alice", 3), 3)
+    requested, by_number = lookup("alice", WORLD.reply("alice", 3)), lookup("alice", WORLD.reply("alice", 3), 3)
     begins = START + 2 * PERIOD
     times: list[tuple[str, int, str, dict[str, Any]]] = [
         ("as it begins", begins, SECOND_KEY, {}),
@@ -203,7 +203,7 @@ def clocks() -> Iterator[Answer]:
         ("years later", begins + 10**9, "Stale", {}),
     ]
     for what, now, wanted, more in times:
-        yield case(f"clock: {what}", [THREE, asked, by_number], FED, wanted, SECOND_KEY, now=now, **more)
+        yield case(f"clock: {what}", [THREE, requested, by_number], FED, wanted, SECOND_KEY, now=now, **more)
     stale = [THREE, {**lookup("bob", flipped(WORLD.reply("alice", 3), 250)), "now": begins + 10**6}]
     yield case("clock: the age comes before the VRF proof", stale, FED, "Stale")
     forked = [THREE, {**lookup("alice", OTHER.reply("alice", 3)), "now": begins + 10**6}]

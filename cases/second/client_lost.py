@@ -32,8 +32,8 @@ class Directory:
     world: World
 
     @classmethod
-    def of(cls, kept: Optional[int], batches: Sequence[tuple[int, Batch]] = BATCHES, **clock: Any) -> Directory:
-        text = policy_text(kept=kept, **clock)
+    def of(cls, stored: Optional[int], batches: Sequence[tuple[int, Batch]] = BATCHES, **clock: Any) -> Directory:
+        text = policy_text(stored=stored, **clock)
         return cls(text, World(batches, policy=digest(text)))
 
     @property
@@ -43,8 +43,8 @@ class Directory:
 
     def case(self, name: str, steps: list[Answer], *wanted: str, **more: Any) -> Answer:
         """A case that begins so."""
-        told = ["watch 1", "fed " + " ".join(f"{it} missing" for it in self.world.epochs)]
-        return self.bare(name, [*self.begin, *steps], *told, *wanted, **more)
+        reported = ["watch 1", "fed " + " ".join(f"{it} missing" for it in self.world.epochs)]
+        return self.bare(name, [*self.begin, *steps], *reported, *wanted, **more)
 
     def bare(self, name: str, steps: list[Answer], *wanted: str, **more: Any) -> Answer:
         return case(f"lost: {name}", steps, *wanted, policy=self.policy, **more)
@@ -86,31 +86,31 @@ def times() -> Iterator[Answer]:
 def timeless() -> Iterator[Answer]:
     """Policies without a clock."""
     always = [lost_at(0), lost_at(END_OF_TIME)]
-    for kept, wanted in [(0, "lost 1 2 3 5"), (1, "lost"), (LARGEST, "lost"), (None, "lost")]:
-        what = "for ever" if kept is None else f"for {kept} seconds"
-        yield Directory.of(kept, has_clock=False).case(f"no clock, and proofs are kept {what}", always, wanted, wanted)
+    for stored, wanted in [(0, "lost 1 2 3 5"), (1, "lost"), (LARGEST, "lost"), (None, "lost")]:
+        what = "for ever" if stored is None else f"for {stored} seconds"
+        yield Directory.of(stored, has_clock=False).case(f"no clock, and proofs are kept {what}", always, wanted, wanted)
     late = Directory.of(0, [(1, {"alice": b"A"}), (LARGEST - 1, {}), (LARGEST, {})], has_clock=False)
     yield late.case("no clock, and the last numbers there are", [LOST], f"lost 1 {LARGEST - 1}")
 
 
 def numbers() -> Iterator[Answer]:
     """Times that numbers of 64 bits or doubles do not hold. Modulo 2^64 each of the first five is at most 2."""
-    for what, start, period, kept, following in [
+    for what, start, period, stored, following in [
         ("the time that they are kept", 0, 1, LARGEST, 2),
         ("the start", LARGEST, 1, 0, 2),
         ("the period", 2, LARGEST, 0, 2),
         ("the period and the number", 0, 2**32, 1, 2**32 + 1),
         ("all numbers", LARGEST, LARGEST, LARGEST, LARGEST),
     ]:
-        it = Directory.of(kept, [(1, {"alice": b"A"}), (following, {})], start=start, period=period)
+        it = Directory.of(stored, [(1, {"alice": b"A"}), (following, {})], start=start, period=period)
         yield it.case(f"beyond 2^64, by {what}", [lost_at(2), lost_at(END_OF_TIME)], "lost", "lost")
-    for what, start, period, kept in [
+    for what, start, period, stored in [
         ("the time that they are kept", 0, 1, END_OF_TIME - 1),
         ("the start", END_OF_TIME - 2, 1, 1),
         ("the period", 0, END_OF_TIME, 0),
         ("all numbers", 2**62 - 1, 2**61, 2**61),
     ]:
-        it = Directory.of(kept, [(1, {"alice": b"A"}), (2, {})], start=start, period=period)
+        it = Directory.of(stored, [(1, {"alice": b"A"}), (2, {})], start=start, period=period)
         yield it.case(f"near 2^63, by {what}", [lost_at(END_OF_TIME - 1), lost_at(END_OF_TIME)], "lost", "lost 1")
     far = Directory.of(3, [(1, {"alice": b"A"}), (2**61, {})], start=2, period=2)
     yield far.case("near 2^62, by a number", [lost_at(2**62 + 2), lost_at(2**62 + 3)], "lost", "lost 1")
@@ -119,11 +119,11 @@ def numbers() -> Iterator[Answer]:
 def proofs() -> Iterator[Answer]:
     """Proofs that come after all."""
     late, world = lost_at(LATE), DAYS.world
-    told = ["lost 1 2 3 5", f"{FIRST_KEY} same", "lost 1 3 5", "missing 1 3 5 6"]
-    yield DAYS.case("a reply comes after all", [late, DAYS.shown(2), LOST, MISSING], *told)
+    reported = ["lost 1 2 3 5", f"{FIRST_KEY} same", "lost 1 3 5", "missing 1 3 5 6"]
+    yield DAYS.case("a reply comes after all", [late, DAYS.shown(2), LOST, MISSING], *reported)
     changed = [late, DAYS.shown(3), LOST, MISSING]
-    told = ["lost 1 2 3 5", f"{SECOND_KEY} changed", "lost 1 2 5", "missing 1 2 5 6"]
-    yield DAYS.case("a reply shows another key after all", changed, *told)
+    reported = ["lost 1 2 3 5", f"{SECOND_KEY} changed", "lost 1 2 5", "missing 1 2 5 6"]
+    yield DAYS.case("a reply shows another key after all", changed, *reported)
     wrong = [late, lookup("alice", flipped(world.reply("alice", 3), 400), 3), LOST]
     yield DAYS.case("a refused reply", wrong, "lost 1 2 3 5", "RootMismatch", "lost 1 2 3 5")
     whole = [late, history("alice", world.history("alice", 1, 2)), LOST, MISSING]
@@ -131,8 +131,8 @@ def proofs() -> Iterator[Answer]:
         "a history comes after all", whole, "lost 1 2 3 5", f"{FIRST_KEY} same, {FIRST_KEY} same", "lost 3 5", "missing 3 5 6"
     )
     gaps = [DAYS.shown(2), DAYS.shown(5), lost_at(end(2)), lost_at(end(5) - 1), lost_at(end(5)), lost_at(LATE)]
-    told = [f"{FIRST_KEY} same", f"{SECOND_KEY} changed", "lost 1", "lost 1", "lost 1 3", "lost 1 3"]
-    yield DAYS.case("several gaps", gaps, *told)
+    reported = [f"{FIRST_KEY} same", f"{SECOND_KEY} changed", "lost 1", "lost 1", "lost 1 3", "lost 1 3"]
+    yield DAYS.case("several gaps", gaps, *reported)
     every = [history("alice", world.history("alice", 1, 2, 3, 5, 6)), late, MISSING]
     keys = ", ".join([f"{FIRST_KEY} same"] * 2 + [f"{SECOND_KEY} changed"] * 3)
     yield DAYS.case("each epoch was verified", every, keys, "lost", "missing")
@@ -145,8 +145,8 @@ def watches() -> Iterator[Answer]:
     yield DAYS.bare("epochs before the first watched one", since, "fed 1 2 3 5 6", "watch 3", "lost 3 5")
     yield DAYS.bare("no entry", [watch("alice", FIRST_KEY), late], "watch 1", "lost")
     growing = [watch("alice", FIRST_KEY), feed(world[1]), late, feed(*world.entries(2, 3)), LOST, feed(world[5]), LOST]
-    told = ["watch 1", "fed 1 missing", "lost", "fed 2 missing 3 missing", "lost 1 2", "fed 5 missing", "lost 1 2 3"]
-    yield DAYS.bare("the latest, once another one follows", growing, *told)
+    reported = ["watch 1", "fed 1 missing", "lost", "fed 2 missing 3 missing", "lost 1 2", "fed 5 missing", "lost 1 2 3"]
+    yield DAYS.bare("the latest, once another one follows", growing, *reported)
     yield DAYS.bare(
         "a late start",
         [watch("alice", SECOND_KEY), feed(world[6]), lost_at(end(6) - 1), lost_at(end(6))],
@@ -162,11 +162,11 @@ def pruned() -> Iterator[Answer]:
     fifth, sixth = head("cover", 5, world.link(5)), head("cover", 6, world.link(6))
     first = history("alice", world.history("alice", 1, 2))
     steps = [first, fifth, DAYS.shown(1), lost_at(end(5) - 1), lost_at(end(5)), late, MISSING]
-    told = [f"{FIRST_KEY} same, {FIRST_KEY} same", EQUAL, "UnknownEpoch", "lost", "lost 3", "lost 3 5", "missing 3 5 6"]
-    yield DAYS.case("an auditor covers it", steps, *told)
+    reported = [f"{FIRST_KEY} same, {FIRST_KEY} same", EQUAL, "UnknownEpoch", "lost", "lost 3", "lost 3 5", "missing 3 5 6"]
+    yield DAYS.case("an auditor covers it", steps, *reported)
     then = [late, first, DAYS.shown(3), sixth, LOST, DAYS.shown(5), sixth, LOST, MISSING]
-    told = ["lost 1 2 3 5", told[0], f"{SECOND_KEY} changed", EQUAL, "lost", "UnknownEpoch", EQUAL, "lost", "missing 6"]
-    yield DAYS.case("verified, and covered", then, *told)
+    reported = ["lost 1 2 3 5", reported[0], f"{SECOND_KEY} changed", EQUAL, "lost", "UnknownEpoch", EQUAL, "lost", "missing 6"]
+    yield DAYS.case("verified, and covered", then, *reported)
 
 
 def resumed() -> Iterator[Answer]:
@@ -174,9 +174,9 @@ def resumed() -> Iterator[Answer]:
     watching = watch("alice", FIRST_KEY, 1)
     three = state_after([watching, feed(*world.entries(1, 2, 3)), DAYS.shown(2)], policy=DAYS.policy).hex()
     steps = [lost_at(end(2) - 1), lost_at(end(2)), lost_at(LATE), MISSING, feed(world[5]), LOST]
-    told = ["lost", "lost 1", "lost 1", "missing 1 3", "fed 5 missing", "lost 1 3"]
-    yield DAYS.bare("a state is resumed", steps, *told, state=three)
+    reported = ["lost", "lost 1", "lost 1", "missing 1 3", "fed 5 missing", "lost 1 3"]
+    yield DAYS.bare("a state is resumed", steps, *reported, state=three)
     covered = state_after([*DAYS.begin, DAYS.shown(1), head("cover", 5, world.link(5))], policy=DAYS.policy).hex()
     steps = [MISSING, lost_at(end(3) - 1), lost_at(end(3)), DAYS.shown(2), LOST]
-    told = ["missing 2 3 5 6", "lost", "lost 2", f"{FIRST_KEY} same", "lost"]
-    yield DAYS.bare("a state that begins later is resumed", steps, *told, state=covered)
+    reported = ["missing 2 3 5 6", "lost", "lost 2", f"{FIRST_KEY} same", "lost"]
+    yield DAYS.bare("a state that begins later is resumed", steps, *reported, state=covered)

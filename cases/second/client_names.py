@@ -35,10 +35,10 @@ def names() -> Iterator[Answer]:
     key = [THREE, watch("carol", None), shown("carol", 3)]
     yield case("watch: none is expected, and one is there", key, FED, "watch 3", "key of carol changed")
     before = [watch("alice", FIRST_KEY), THREE, MISSING, shown("alice", 1), shown("alice", 3), MISSING]
-    told = ["watch 1", WATCHED, "missing 1 2 3", f"{FIRST_KEY} same", f"{SECOND_KEY} changed", "missing 2"]
-    yield case("watch: epochs without a reply are missing", before, *told)
+    reported = ["watch 1", WATCHED, "missing 1 2 3", f"{FIRST_KEY} same", f"{SECOND_KEY} changed", "missing 2"]
+    yield case("watch: epochs without a reply are missing", before, *reported)
     proved = [*before, history("alice", WORLD.history("alice", 2)), MISSING]
-    yield case("watch: a missing epoch is proved later", proved, *told, f"{FIRST_KEY} same", "missing")
+    yield case("watch: a missing epoch is proved later", proved, *reported, f"{FIRST_KEY} same", "missing")
     refused = [watch("alice", FIRST_KEY), THREE, lookup("alice", flipped(WORLD.reply("alice", 3), 400)), MISSING]
     yield case("watch: a refused reply leaves the epoch missing", refused, "watch 1", WATCHED, "RootMismatch", "missing 1 2 3")
     other = [watch("alice", FIRST_KEY), THREE, shown("bob", 3), MISSING]
@@ -84,11 +84,11 @@ def misuse() -> Iterator[Answer]:
 
 def changes() -> Iterator[Answer]:
     alice = watch("alice", FIRST_KEY)
-    begin, told = [feed(*WORLD.entries(1, 2)), alice, expect(SECOND_KEY, 5)], ["fed 1 2", "watch 2", "expect 5"]
+    begin, reported = [feed(*WORLD.entries(1, 2)), alice, expect(SECOND_KEY, 5)], ["fed 1 2", "watch 2", "expect 5"]
     rest, fed = feed(*WORLD.entries(3, 5)), "fed 3 missing 5 missing"
     new = f"{SECOND_KEY} same"
     steps = [*begin, rest, shown("alice", 2), shown("alice", 3), shown("alice", 5)]
-    yield case("expect: the new key before its time", steps, *told, fed, f"{FIRST_KEY} same", new, new, now=hour(5))
+    yield case("expect: the new key before its time", steps, *reported, fed, f"{FIRST_KEY} same", new, new, now=hour(5))
     early = [feed(*WORLD.entries(1, 2)), alice, expect(SECOND_KEY, 3), feed(WORLD[3]), shown("alice", 3)]
     yield case("expect: the new key at its time", early, "fed 1 2", "watch 2", "expect 3", "fed 3 missing", new)
     bob = [feed(WORLD[1]), watch("bob", "key of bob"), expect("new key of bob", 3), feed(*WORLD.entries(2, 3))]
@@ -108,7 +108,7 @@ def changes() -> Iterator[Answer]:
     yield case("expect: a first key that is not there", never, "fed 1", "watch 1", "expect 2", "fed 2 missing", "none absent")
     third = [*begin, rest, shown("alice", 3)]
     wrong = [feed(*WORLD.entries(1, 2)), alice, expect("another key", 5), rest, shown("alice", 3)]
-    yield case("expect: a third key", wrong, *told, fed, f"{SECOND_KEY} changed", now=hour(5))
+    yield case("expect: a third key", wrong, *reported, fed, f"{SECOND_KEY} changed", now=hour(5))
     before = [THREE, watch("alice", FIRST_KEY, 1), expect(SECOND_KEY, 9), shown("alice", 3)]
     yield case("expect: the new key before it was expected", before, FED, "watch 1", "expect 9", f"{SECOND_KEY} changed")
     yield from turns(third)
@@ -117,13 +117,13 @@ def changes() -> Iterator[Answer]:
 def turns(third: list[Answer]) -> Iterator[Answer]:
     """The key changes back while either may be shown."""
     begin = [watch("alice", "A"), expect("B", 5), feed(*TURNING.entries(1, 2, 3, 4))]
-    told = ["watch 1", "expect 5", "fed 1 missing 2 missing 3 missing 4 missing"]
+    reported = ["watch 1", "expect 5", "fed 1 missing 2 missing 3 missing 4 missing"]
     for what, epochs, wanted in [
         ("in order", (1, 2, 3, 4), ["A same", "B same", "A changed", "B same"]),
         ("the old key first", (3, 2, 1, 4), ["A same", "B changed", "A same", "B same"]),
         ("a missing epoch last", (1, 4, 3, 2), ["A same", "B same", "A same", "B changed"]),
     ]:
-        yield case(f"expect: back and forth, {what}", [*begin, *(shown("alice", it, TURNING) for it in epochs)], *told, *wanted)
+        yield case(f"expect: back and forth, {what}", [*begin, *(shown("alice", it, TURNING) for it in epochs)], *reported, *wanted)
     late = [feed(TURNING[1]), watch("alice", "A"), expect("B", 5), feed(*TURNING.entries(2, 3)), shown("alice", 2, TURNING)]
     wanted = ["fed 1", "watch 1", "expect 5", "fed 2 missing 3 missing", "B same", "A changed"]
     yield case("expect: back, after the first epoch that may show the new key", [*late, shown("alice", 3, TURNING)], *wanted)
@@ -131,14 +131,14 @@ def turns(third: list[Answer]) -> Iterator[Answer]:
     wanted = ["watch 1", "expect 4", "fed 1 missing 2 missing 3 missing", "A same", "B changed"]
     yield case("expect: forth, before the last epoch that may show the old key", [*early, shown("alice", 2, TURNING)], *wanted)
     again = [*begin, shown("alice", 4, TURNING), feed(TURNING[5]), expect("C", 7), shown("alice", 5, TURNING)]
-    yield case("expect: a second change", again, *told, "B same", "fed 5 missing", "expect 7", "C changed")
+    yield case("expect: a second change", again, *reported, "B same", "fed 5 missing", "expect 7", "C changed")
     later = [watch("alice", "A"), expect("B", 2), feed(*TURNING.entries(1, 2, 3, 4)), expect("C", 5), feed(TURNING[5])]
-    wanted = ["watch 1", "expect 2", told[2], "expect 5", "fed 5 missing"]
+    wanted = ["watch 1", "expect 2", reported[2], "expect 5", "fed 5 missing"]
     looked = [shown("alice", it, TURNING) for it in (4, 5, 3)]
     yield case("expect: a second change after the first", [*later, *looked], *wanted, "B same", "C same", "A changed")
-    kept = [*third, shown("alice", 2), head("cover", 5, WORLD.link(5)), shown("alice", 2), shown("alice", 3)]
+    stored = [*third, shown("alice", 2), head("cover", 5, WORLD.link(5)), shown("alice", 2), shown("alice", 3)]
     wanted = ["fed 1 2", "watch 2", "expect 5", "fed 3 missing 5 missing", f"{SECOND_KEY} same", f"{FIRST_KEY} same", EQUAL]
-    yield case("expect: what an auditor covers", kept, *wanted, "UnknownEpoch", "UnknownEpoch", now=hour(5))
+    yield case("expect: what an auditor covers", stored, *wanted, "UnknownEpoch", "UnknownEpoch", now=hour(5))
 
 
 def state_after(steps: list[Answer], now: int = hour(3), **more: str) -> bytes:

@@ -8,7 +8,7 @@ from client import Answer
 from client_attacks import case, feed, lookup
 from client_world import BATCHES, POLICY, World, digest, policy_text
 
-LINE, EVIDENCE, KEPT = "records vouched\n", "evidence one-chain\n", "proofs-kept forever\n"
+LINE, EVIDENCE, STORED = "records vouched\n", "evidence one-chain\n", "proofs-kept forever\n"
 VOUCHED = policy_text(records_vouched=True)
 FED = "fed 1 2 3"
 
@@ -23,7 +23,7 @@ def followed(name: str, text: str, **more: Any) -> Answer:
 def policies() -> Iterator[Answer]:
     yield followed("records vouched", VOUCHED)
     yield followed("records vouched, without a clock", policy_text(has_clock=False, records_vouched=True))
-    yield followed("records vouched, and an end of proofs", policy_text(kept=86400, records_vouched=True))
+    yield followed("records vouched, and an end of proofs", policy_text(stored=86400, records_vouched=True))
     entries = feed(*World(BATCHES[:3]).entries())
     yield case("policy: the entries of a policy without the line", [entries], "OtherPolicy", policy=VOUCHED)
     for what, text in no_policies():
@@ -38,7 +38,7 @@ def no_policies() -> Iterator[tuple[str, str]]:
     yield "the line before epoch-start", POLICY.replace("epoch-start", f"{LINE}epoch-start")
     yield "the line before and after proofs-kept", VOUCHED + LINE
     yield "the line in place of evidence", POLICY.replace(EVIDENCE, LINE)
-    yield "the line in place of proofs-kept", POLICY.replace(KEPT, LINE)
+    yield "the line in place of proofs-kept", POLICY.replace(STORED, LINE)
     yield "the line alone", LINE
     for value in ["free", "vouch", "voucher", "vouched1", "Vouched", "vouched ", " vouched", "vouched\r", "vouched 1", ""]:
         yield f"records with the value {value!r}", VOUCHED.replace(LINE, f"records {value}\n")

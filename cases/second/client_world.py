@@ -26,14 +26,14 @@ def policy_text(
     *,
     start: int = START,
     period: int = PERIOD,
-    kept: Optional[int] = None,
+    stored: Optional[int] = None,
     records_vouched: bool = False,
 ) -> str:
     scheme = ["vrf none"] if vrf is None else ["vrf ECVRF-EDWARDS25519-SHA512-TAI", f"vrf-key {vrf.hex()}"]
     clock = [f"epoch-start {start}", f"epoch-period {period}"] if has_clock else []
     front = ["policy coniks-1", "origin keys.example.com", "signature Ed25519", f"signing-key {signing.hex()}"]
     records = ["records vouched"] if records_vouched else []
-    end = ["evidence one-chain", *records, f"proofs-kept {'forever' if kept is None else kept}"]
+    end = ["evidence one-chain", *records, f"proofs-kept {'forever' if stored is None else stored}"]
     return "".join(f"{it}\n" for it in [*front, *scheme, *clock, *end])
 
 

@@ -130,7 +130,7 @@ class Lines(Generic[KindOfOperation, KindOfEpoch]):
         """The number of the epoch and the name that a lookup asks for."""
         return member(members, "epoch", whole_number), member(members, "name", text)
 
-    def epoch_asked(self, number: int, name: str) -> KindOfEpoch:
+    def epoch_requested(self, number: int, name: str) -> KindOfEpoch:
         self.must_be_open()
         epoch = self.epochs.get(number)
         if epoch is None:
@@ -223,7 +223,7 @@ class Directory(Lines[Operation, Epoch]):
 
     def look_up(self, members: dict[str, Json]) -> Answer:
         number, name = self.epoch_and_name(members)
-        epoch = self.epoch_asked(number, name)
+        epoch = self.epoch_requested(number, name)
         index = demonstration_index(self.key, name.encode("utf-8"))
         siblings, found = self.path(epoch, index)
         if found and found[0][0] == index:

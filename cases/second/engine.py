@@ -31,7 +31,7 @@ class Refused(Exception):
     """Arguments that are refused, with the reason."""
 
 
-class Asked(Exception):
+class Requested(Exception):
     """A text that the command line asks for; it is printed and nothing is run."""
 
 
@@ -116,8 +116,8 @@ def run(program: str, words: list[str], engine_of: Callable[[list[str]], Union[E
     try:
         check_text(words, not_text)
         engine = engine_of(words)
-    except Asked as asked:
-        print(asked)
+    except Requested as requested:
+        print(requested)
         return 0
     except Refused as refused:
         print(f"{program}: {refused}", file=sys.stderr)

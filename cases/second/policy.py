@@ -79,10 +79,10 @@ class Policy:
         keys = lines.key("signing-key"), vrf_key(lines)
         start, period = (lines.number("epoch-start"), lines.number("epoch-period", 1)) if lines.has("epoch-start") else (None, 0)
         lines.line("evidence", "one-chain")
-        records_vouched, kept = lines.is_next("records", "vouched"), kept_of(lines)
+        records_vouched, stored = lines.is_next("records", "vouched"), stored_of(lines)
         if lines.rest:
             raise NoPolicy("lines follow")
-        return cls(sha256(text), keys, start, period, records_vouched, kept)
+        return cls(sha256(text), keys, start, period, records_vouched, stored)
 
     def promises(self, following: int, now: int) -> bool:
         """Whether proofs are promised of an epoch that another one follows."""
@@ -101,6 +101,6 @@ def vrf_key(lines: Lines) -> Optional[bytes]:
     return lines.key("vrf-key")
 
 
-def kept_of(lines: Lines) -> Optional[int]:
+def stored_of(lines: Lines) -> Optional[int]:
     """For how many seconds proofs are kept, None for ever."""
     return None if lines.is_next("proofs-kept", "forever") else lines.number("proofs-kept")

@@ -73,14 +73,14 @@ class Restore:
 
     def add(self, bindings: list[Binding]) -> None:
         """Adds all bindings of a line, or none if one has a fault."""
-        kept, names = dict(self.bindings), set(self.names)
+        stored, names = dict(self.bindings), set(self.names)
         for position, it in enumerate(bindings):
-            fault = self.fault_of(it, kept, names)
+            fault = self.fault_of(it, stored, names)
             if fault:
                 raise Fault(fault, position=position)
-            kept[it.index] = it
+            stored[it.index] = it
             names.add(it.name)
-        self.bindings, self.names = kept, names
+        self.bindings, self.names = stored, names
 
     @staticmethod
     def fault_of(it: Binding, before: Container[bytes], names: Container[bytes]) -> Optional[str]:
@@ -314,14 +314,14 @@ class SuppliedDirectory(Lines[SuppliedOperation, Epoch]):
     def look_up(self, members: dict[str, Json]) -> Answer:
         number, name = self.epoch_and_name(members)
         index = member(members, "index", h32)
-        epoch = self.epoch_asked(number, name)
+        epoch = self.epoch_requested(number, name)
         if self.indices.get(name.encode("utf-8"), index) != index:
             raise Fault("OtherIndex")
         siblings, found = path_to(epoch.tree, index)
         return answer_of_lookup(epoch.entry, name, index, siblings, self.end(number, index, found))
 
     def end(self, number: int, index: bytes, found: Entries) -> dict[str, str]:
-        """The end of a path. A leaf of the index has the name registered with it, which may not be the one asked for."""
+        """The end of a path. A leaf of the index has the name registered with it, which may not be the one requested."""
         if not found or found[0][0] != index:
             return end_elsewhere(found)
         shown = self.records[index].at(number)

@@ -14,13 +14,13 @@ import pytest
 from limited import Late, ended
 
 CASES = Path(__file__).resolve().parents[1]
-TOLD = "no end within 0.3 seconds"
+REPORTED = "no end within 0.3 seconds"
 
 # What hangs is a child of the program, which must be ended too: it has the program's streams.
 HANGS = "#!/bin/sh\nsleep 600\necho never\n"
 
 
-def told(room: Path, script: str, *words: str, hangs: str = HANGS) -> list[str]:
+def reported(room: Path, script: str, *words: str, hangs: str = HANGS) -> list[str]:
     """The lines that a script of a folder prints of a program that hangs, which it reports soon and fails on."""
     program = room / "provider"
     program.write_text(hangs)
@@ -49,37 +49,37 @@ def rows(room: Path, *names: str) -> None:
 
 def test_compare(room: Path) -> None:
     rows(room, "an-empty-batch")
-    lines = told(room, "compare", "run")
-    assert [it.strip() for it in lines if TOLD in it] == [TOLD, TOLD] and lines[-1] == "0 passed, 2 failed"
+    lines = reported(room, "compare", "run")
+    assert [it.strip() for it in lines if REPORTED in it] == [REPORTED, REPORTED] and lines[-1] == "0 passed, 2 failed"
 
 
 def test_like_run(room: Path) -> None:
     rows(room, "an-empty-batch", "name-taken")
-    assert told(room, "like-run")[-4:] == [
-        f"run/an-empty-batch: {TOLD}",
-        f"run/name-taken: {TOLD}",
-        f"run/in-turns: {TOLD}",
+    assert reported(room, "like-run")[-4:] == [
+        f"run/an-empty-batch: {REPORTED}",
+        f"run/name-taken: {REPORTED}",
+        f"run/in-turns: {REPORTED}",
         "0 passed, 3 failed",
     ]
 
 
 def test_streams(room: Path) -> None:
     """It hangs with the argument for replays alone, and the rows without that one are compared."""
-    lines = told(room, "streams", hangs='#!/bin/sh\nif [ "$1" = --replay ]; then sleep 600; fi\necho provider 1.0.0\n')
+    lines = reported(room, "streams", hangs='#!/bin/sh\nif [ "$1" = --replay ]; then sleep 600; fi\necho provider 1.0.0\n')
     wanted = 6 if Path("/dev/full").exists() else 5
-    assert lines.count(f"    got  ['{TOLD}']") == wanted and lines[-1].startswith("2 passed, ")
+    assert lines.count(f"    got  ['{REPORTED}']") == wanted and lines[-1].startswith("2 passed, ")
 
 
 def test_restored(room: Path) -> None:
     wanted = json.loads((CASES / "restored.json").read_text())
     (room / "restored.json").write_text(json.dumps({**wanted, "size": {"names": 100, "batch": 10, "lookups": 1}}))
-    lines = told(room, "restored")
-    assert lines[:2] == ["restored:", f"    {TOLD}"] and lines[-1] == "0 passed, 1 failed"
+    lines = reported(room, "restored")
+    assert lines[:2] == ["restored:", f"    {REPORTED}"] and lines[-1] == "0 passed, 1 failed"
 
 
 def test_epochs(room: Path) -> None:
-    lines = told(room, "epochs", "--epochs", "3")
-    assert lines[:2] == ["epochs:", f"    {TOLD}"] and lines[-1] == "0 passed, 1 failed"
+    lines = reported(room, "epochs", "--epochs", "3")
+    assert lines[:2] == ["epochs:", f"    {REPORTED}"] and lines[-1] == "0 passed, 1 failed"
 
 
 def test_bytes(room: Path) -> None:
@@ -87,8 +87,8 @@ def test_bytes(room: Path) -> None:
     items = json.loads((CASES / "bytes.json").read_text())
     chosen = [next(it for it in items if ("shown" in it) is is_shown) for is_shown in (True, False)]
     (room / "bytes.json").write_text(json.dumps(chosen))
-    lines = told(room, "bytes")
-    assert TOLD in lines[1] and lines[-1] == "1 passed, 1 failed"
+    lines = reported(room, "bytes")
+    assert REPORTED in lines[1] and lines[-1] == "1 passed, 1 failed"
 
 
 def test_killed(monkeypatch: pytest.MonkeyPatch) -> None:

@@ -70,7 +70,7 @@ WRONG = [
 
 @pytest.mark.parametrize(("row", "fault"), WRONG)
 def test_wrong_rows(tmp_path: Path, row: str, fault: str) -> None:
-    """A row that is no case is told, beside those that are."""
+    """A row that is no case is reported, beside those that are."""
     table = tmp_path / "check.jsonl"
     table.write_text(f'{GOOD}\n{{"name":"same","as":"good"}}\n{row}\n')
     cases, wrong = case_rows.cases_of(table)
@@ -79,16 +79,16 @@ def test_wrong_rows(tmp_path: Path, row: str, fault: str) -> None:
 
 
 @pytest.mark.parametrize(
-    ("rows", "told"),
+    ("rows", "reported"),
     [
         (f"{GOOD}\n[]\n", "check.jsonl, row 2: no object with a name\n1 passed, 1 failed\n"),
         ("", "check.jsonl: no case\n0 passed, 1 failed\n"),
     ],
 )
-def test_wrong_tables(tmp_path: Path, rows: str, told: str) -> None:
+def test_wrong_tables(tmp_path: Path, rows: str, reported: str) -> None:
     """`compare` fails on a row that is no case, and on a table without one."""
     for name in ["compare", "case_rows.py", "limited.py"]:
         shutil.copy(CASES / name, tmp_path)
     (tmp_path / "check.jsonl").write_text(rows)
     ran = subprocess.run([tmp_path / "compare", CASES / "second/keydir", "check"], capture_output=True, text=True)
-    assert (ran.stdout, ran.returncode) == (told, 1)
+    assert (ran.stdout, ran.returncode) == (reported, 1)
