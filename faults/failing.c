@@ -38,9 +38,9 @@ static int is_met(char of)
 {
     if (kind != of || __atomic_add_fetch(&calls, 1, __ATOMIC_SEQ_CST) != wanted)
         return 0;
-    const char *told = getenv("FAULT_TOLD");
-    if (told != NULL)
-        syscall(SYS_write, atoi(told), "!", 1);
+    const char *reported = getenv("FAULT_TOLD");
+    if (reported != NULL)
+        syscall(SYS_write, atoi(reported), "!", 1);
     return 1;
 }
 

@@ -105,14 +105,14 @@ class Ran:
     """What came of a run in which a call was to fail, and whether it came to that call."""
 
     def __init__(self, library: str, fault: str, words: Words, given: bytes = b"") -> None:
-        told, teller = os.pipe()
+        reported, teller = os.pipe()
         try:
             setting = {"FAULT": fault, "FAULT_TOLD": str(teller), "LD_PRELOAD": library}
             ran = subprocess.run(words, input=given, capture_output=True, env=setting, pass_fds=[teller], timeout=SECONDS)
         finally:
             os.close(teller)
-            self.is_met = os.read(told, 1) == b"!"
-            os.close(told)
+            self.is_met = os.read(reported, 1) == b"!"
+            os.close(reported)
         self.status, self.output, self.errors = ran.returncode, ran.stdout, ran.stderr
 
 
@@ -179,8 +179,8 @@ def text_of(run: CaseRun, kind: str, number: int, ran: Ran) -> Optional[str]:
         return None
     is_part = whole.startswith(ran.output) and (kind in ("write", "stall") or ran.output[-1:] in (b"", b"\n"))
     text = next((it for it in TEXTS[kind] if ran.errors == f"{run.program}: {it}\n".encode()), None)
-    is_told = text is not None and (text != NO_BOARD or not ran.output)
-    if ran.status != 3 or not is_part or not is_told:
+    is_reported = text is not None and (text != NO_BOARD or not ran.output)
+    if ran.status != 3 or not is_part or not is_reported:
         raise Wrong(f"{kind} {number}: status {ran.status}, {ran.errors!r}, output {ran.output[-200:]!r}")
     return text
 

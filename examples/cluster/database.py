@@ -48,15 +48,15 @@ class Database(AbstractContextManager["Database"]):
     def _begin(self, program: str, *words: str) -> subprocess.Popen[bytes]:
         # It ends when this process does, even if that is killed.
         whole = ["setpriv", "--pdeathsig=QUIT", f"{self._programs}/{program}", *words]
-        with open(self.folder / "said", "ab") as said:
-            return subprocess.Popen(whole, stdout=said, stderr=said, cwd=self.folder, start_new_session=True, **self._as)
+        with open(self.folder / "said", "ab") as reply:
+            return subprocess.Popen(whole, stdout=reply, stderr=reply, cwd=self.folder, start_new_session=True, **self._as)
 
     def start(self) -> None:
         """Starts PostgreSQL, and waits until it answers."""
         self._server = self._begin("postgres", "-D", "data", "-k", str(self.folder), *OPTIONS)
         soon(lambda: self._begin("pg_isready", "--quiet", f"--host={self.folder}").wait() == 0 or not self.is_running(), 60)
         if not self.is_running():
-            raise ChildProcessError(f"PostgreSQL ended: {(self.folder / 'said').read_text()[-2000:]}")
+            raise ChildProcessError(f"PostgreSQL ended: {(self.folder / 'reply').read_text()[-2000:]}")
 
     def execute(self, query: str) -> list[Any]:
         """Executes a query, and returns its rows."""

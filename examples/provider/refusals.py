@@ -37,8 +37,8 @@ ABSENT = next(it for it in LINES if it["ok"] == "lookup" and it["name"] == "dave
 
 def reply(name: str = "alice", line: dict[str, Any] = LOOKUP, **changed: Any) -> bytes:
     """The reply of a provider whose program printed this line, or one with other members."""
-    said, proof = line | changed, ecvrf.prove(VRF, name.encode())
-    return b"\1" + bytes.fromhex(said["entry"]) + len(proof).to_bytes(2, "big") + proof + coniks.proof_bytes(said["proof"])
+    message, proof = line | changed, ecvrf.prove(VRF, name.encode())
+    return b"\1" + bytes.fromhex(message["entry"]) + len(proof).to_bytes(2, "big") + proof + coniks.proof_bytes(message["proof"])
 
 
 def signed(body: bytes, key: bytes = SIGNER) -> bytes:

@@ -63,7 +63,7 @@ Outcome = asyncio.Future[Union[bytes, Problem]]
 
 
 @dataclass(frozen=True)
-class Asked:
+class Requested:
     """An operation that was collected. `stored` is whether the queue has it."""
 
     number: str
@@ -92,8 +92,8 @@ class Collector:
         # What became of those that are remembered, by their numbers.
         self.outcomes: dict[str, Outcome] = {}
         # Those that wait for an epoch, and the batch of an epoch, while it isn't known whether the log has it.
-        self._waiting: dict[str, Asked] = {}
-        self._batch: dict[str, Asked] = {}
+        self._waiting: dict[str, Requested] = {}
+        self._batch: dict[str, Requested] = {}
         self._epoch: Optional[int] = None
         # Few threads look up names for operations at once, so that those of one address delay no other lookups.
         self._looking = asyncio.Semaphore(_LOOKING)
@@ -110,7 +110,7 @@ class Collector:
     def pending(self) -> int:
         return len(self._waiting) + len(self._batch)
 
-    async def take(self, operation: Operation, headers: Mapping[str, str]) -> Asked:
+    async def take(self, operation: Operation, headers: Mapping[str, str]) -> Requested:
         """Takes an operation for the next epoch if whoever asks may do it. Raises `Problem`."""
         judged = await self._judged(operation, headers)
         # An epoch that was committed meanwhile may have another key of the name.
@@ -134,23 +134,23 @@ class Collector:
         unsigned = ", or the key is no record that the name's owner signed" * self.holder.keys.policy.records_vouched
         return Problem(403, "Forbidden", f"the credentials do not allow this{unsigned}")
 
-    async def collect(self, judged: Judged) -> Asked:
+    async def collect(self, judged: Judged) -> Requested:
         """Takes an operation that is judged, once the queue has it, or returns the one that asks for the same already. Raises
         `Problem` and `QueueFailed`."""
-        asked = self._same(judged.operation) or self._new(judged)
+        requested = self._same(judged.operation) or self._new(judged)
         # Whoever asks may go: it is stored, and committed, all the same.
-        if not await asyncio.shield(asked.stored):
+        if not await asyncio.shield(requested.stored):
             raise name_waits()
-        return asked
+        return requested
 
-    def _same(self, operation: Operation) -> Optional[Asked]:
+    def _same(self, operation: Operation) -> Optional[Requested]:
         """The operation of a name that waits, which must ask for the same."""
         other = self._waiting.get(operation.name) or self._batch.get(operation.name)
         if other and (type(operation), operation.key) != (type(other.operation), other.operation.key):
             raise name_waits()
         return other
 
-    def _new(self, judged: Judged) -> Asked:
+    def _new(self, judged: Judged) -> Requested:
         """Has the queue store an operation."""
         if self.is_over or self.holder.queue is None:
             raise Problem(503, "NoWriter", "this process takes no operations: look the name up, and send it again to the writer")
@@ -158,21 +158,21 @@ class Collector:
             text = f"{MOST_WAITING} operations wait, of which an epoch takes {MOST}: ask again after the next one"
             raise Problem(503, "QueueFull", text, self.holder.until_next())
         number = secrets.token_urlsafe(18)
-        asked = self._remember(number, judged, self.holder.queue.put(judged.row(number)))
-        self._waiting[judged.operation.name] = asked
-        asked.stored.add_done_callback(partial(self._forget_unstored, asked))
-        return asked
+        requested = self._remember(number, judged, self.holder.queue.put(judged.row(number)))
+        self._waiting[judged.operation.name] = requested
+        requested.stored.add_done_callback(partial(self._forget_unstored, requested))
+        return requested
 
-    def _remember(self, number: str, judged: Judged, stored: asyncio.Future[bool]) -> Asked:
+    def _remember(self, number: str, judged: Judged, stored: asyncio.Future[bool]) -> Requested:
         self.outcomes[number] = outcome = asyncio.get_running_loop().create_future()
         # They are decided in their order, so the first one is decided.
         if len(self.outcomes) > 2 * MOST_WAITING:
             del self.outcomes[next(iter(self.outcomes))]
-        return Asked(number, judged, stored, outcome)
+        return Requested(number, judged, stored, outcome)
 
-    def _forget_unstored(self, asked: Asked, _: object) -> None:
-        if not asked.is_stored:
-            del self._waiting[asked.operation.name], self.outcomes[asked.number]
+    def _forget_unstored(self, requested: Requested, _: object) -> None:
+        if not requested.is_stored:
+            del self._waiting[requested.operation.name], self.outcomes[requested.number]
 
     async def run(self) -> None:
         """Commits at each epoch, until it is cancelled. Raises `Overtaken` once another process writes, so that this one ends: it must
@@ -238,13 +238,13 @@ class Collector:
         for row, entry in zip(rows, entries):
             stored: asyncio.Future[bool] = asyncio.get_running_loop().create_future()
             stored.set_result(True)
-            asked = self._remember(row.number, Judged.of(row), stored)
+            requested = self._remember(row.number, Judged.of(row), stored)
             if entry:
-                asked.outcome.set_result(entry)
+                requested.outcome.set_result(entry)
             elif pending and row.epoch == pending.epoch:
-                self._epoch, self._batch[row.name] = row.epoch, asked
+                self._epoch, self._batch[row.name] = row.epoch, requested
             else:
-                self._waiting[row.name] = asked
+                self._waiting[row.name] = requested
 
     def _run(self, call: Callable[..., Result], *arguments: object) -> asyncio.Future[Result]:
         """Makes a call in the thread that commits."""
@@ -260,7 +260,7 @@ class Collector:
         except Fault as fault:
             if fault.position is None:
                 raise
-            await self._refuse(queue, operations[fault.position].name, Problem(409, type(fault).__name__, type(fault).said))
+            await self._refuse(queue, operations[fault.position].name, Problem(409, type(fault).__name__, type(fault).reason))
             return True
         if entry:
             await queue.drop([it.number for it in batch.values()])

@@ -51,7 +51,7 @@ class Bounds:
     body: int = 32768
     open: set[Connection] = field(default_factory=set)
     # How many of them each network has.
-    held: Counter[str] = field(default_factory=Counter)
+    counts: Counter[str] = field(default_factory=Counter)
 
     @cached_property
     def requests(self) -> Rate:
@@ -63,7 +63,7 @@ class Bounds:
         if len(self.open) >= self.connections:
             return False
         most = max(_LEAST, self.connections // _PART)
-        return self.is_behind_proxy or (self.held[network] < most and not self.requests.is_spent(network))
+        return self.is_behind_proxy or (self.counts[network] < most and not self.requests.is_spent(network))
 
     def address_of(self, request: web.BaseRequest) -> str:
         """The address for which a request counts."""
@@ -88,16 +88,16 @@ class Connection(web.RequestHandler):
         if not self._bounds.admits(self._network):
             return transport.abort()
         self._bounds.open.add(self)
-        self._bounds.held[self._network] += 1
+        self._bounds.counts[self._network] += 1
         super().connection_made(transport)
         self._end_after(self._bounds.patience)
 
     def connection_lost(self, error: Optional[BaseException]) -> None:
         if self in self._bounds.open:
             self._bounds.open.remove(self)
-            self._bounds.held[self._network] -= 1
-            if not self._bounds.held[self._network]:
-                del self._bounds.held[self._network]
+            self._bounds.counts[self._network] -= 1
+            if not self._bounds.counts[self._network]:
+                del self._bounds.counts[self._network]
             super().connection_lost(error)
         if self._timer:
             self._timer.cancel()

@@ -132,7 +132,7 @@ class Endpoints:
         if isinstance(error, web.RequestPayloadError):
             return Problem(400, "Request", "the body is not as the headers say")
         if isinstance(error, Fault):
-            return Problem(404 if isinstance(error, UnknownEpoch) else 400, type(error).__name__, error.said)
+            return Problem(404 if isinstance(error, UnknownEpoch) else 400, type(error).__name__, error.reason)
         if isinstance(error, (ProviderError, KeyFailed, QueueFailed, asyncio.TimeoutError)):
             LOG.warning("unavailable", extra=error_of(error))
             return Problem(503, "Unavailable", "the directory can't be asked now: ask again", 1)
@@ -181,7 +181,7 @@ class Endpoints:
                 await self._check_sight(request, name, epoch)
                 found = await asyncio.to_thread(self._holder.reply, name, epoch)
         self._metrics.count_lookup(found)
-        # A name is private, and at an epoch that was asked for its reply never changes.
+        # A name is private, and at an epoch that was requested its reply never changes.
         made = reply(found, BYTES, "no-store" if epoch is None else "private, " + _FOR_EVER)
         if note := self._stapler.note:
             made.headers["Coniks-Note"] = base64.b64encode(bytes(note)).decode()
@@ -222,8 +222,8 @@ class Endpoints:
             raise Problem(403, "OldEpoch", f"only the owner of a name may see it before epoch {oldest}")
 
     async def operate(self, request: web.Request) -> web.Response:
-        asked = await self._collector.take(await operation_of(request), request.headers)
-        return await told(request, asked.number, asked.outcome)
+        requested = await self._collector.take(await operation_of(request), request.headers)
+        return await reported(request, requested.number, requested.outcome)
 
     async def outcome(self, request: web.Request) -> web.Response:
         number = request.match_info["number"]
@@ -233,7 +233,7 @@ class Endpoints:
             raise Problem(
                 404, "UnknownOperation", "no such operation is known: look the name up, and ask again if it lacks the key"
             )
-        return await told(request, number, outcome)
+        return await reported(request, number, outcome)
 
     # What operators ask.
 
@@ -265,7 +265,7 @@ async def operation_of(request: web.Request) -> Operation:
     return kinds[members["op"]](name_of(members["name"]), key_of(members["key"]))
 
 
-async def told(request: web.Request, number: str, decided: Outcome) -> web.Response:
+async def reported(request: web.Request, number: str, decided: Outcome) -> web.Response:
     """The receipt of an operation, if it is decided as soon as the request wants it (RFC 7240), or where to ask for it."""
     wait = re.search(r"(?:^|,)\s*wait\s*=\s*([0-9]{1,4})\s*(?:[,;]|$)", request.headers.get("Prefer", ""), re.I)
     await asyncio.wait([decided], timeout=min(int(wait[1]), LONGEST_WAIT) if wait else 0)

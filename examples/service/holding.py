@@ -57,7 +57,7 @@ class Keys:
             raise ValueError(f"{folder / _POLICY} has no clock, by which the service commits: make a directory with one")
         self.start, self.period = policy.epoch_start, policy.epoch_period
         # The VRF proof and the index of each name that was proved last.
-        self._kept: dict[str, tuple[bytes, bytes]] = {}
+        self._stored: dict[str, tuple[bytes, bytes]] = {}
         self._keeping = threading.Lock()
 
     def sign(self, body: bytes) -> bytes:
@@ -78,21 +78,21 @@ class Keys:
     def proof(self, name: str) -> bytes:
         return self._proved(name)[0]
 
-    def kept_proof(self, name: str) -> Optional[bytes]:
+    def stored_proof(self, name: str) -> Optional[bytes]:
         """The VRF proof of a name if it is kept, so that nothing is computed or waited for."""
-        kept = self._kept.get(name)
-        return kept and kept[0]
+        stored = self._stored.get(name)
+        return stored and stored[0]
 
     def _proved(self, name: str) -> tuple[bytes, bytes]:
         """The VRF proof of a name, and its index."""
-        if kept := self._kept.get(name):
-            return kept
+        if stored := self._stored.get(name):
+            return stored
         proved = self._prove(name)
         with self._keeping:
-            if len(self._kept) >= _ROOM:
+            if len(self._stored) >= _ROOM:
                 # The one that was proved first.
-                del self._kept[next(iter(self._kept))]
-            self._kept[name] = proved
+                del self._stored[next(iter(self._stored))]
+            self._stored[name] = proved
         return proved
 
     def _prove(self, name: str) -> tuple[bytes, bytes]:

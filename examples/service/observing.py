@@ -29,7 +29,7 @@ class Lines(logging.StreamHandler[TextIO]):
 
     def __init__(self) -> None:
         super().__init__()
-        self._held: list[str] = []
+        self._retained: list[str] = []
         self._turn = threading.RLock()
 
     def emit(self, record: logging.LogRecord) -> None:
@@ -42,8 +42,8 @@ class Lines(logging.StreamHandler[TextIO]):
         """Writes a line without a record, which would take a tenth of a lookup's time."""
         line = {"time": round(time.time() if at is None else at, 3), "level": level, "event": event, **members}
         with self._turn:
-            self._held.append(_ENCODER.encode(line) + "\n")
-            is_first = len(self._held) == 1
+            self._retained.append(_ENCODER.encode(line) + "\n")
+            is_first = len(self._retained) == 1
         try:
             loop = asyncio.get_running_loop()
         except RuntimeError:
@@ -54,9 +54,9 @@ class Lines(logging.StreamHandler[TextIO]):
     def flush(self) -> None:
         """Writes what is held."""
         with self._turn:
-            if self._held:
-                self.stream.write("".join(self._held))
-                self._held = []
+            if self._retained:
+                self.stream.write("".join(self._retained))
+                self._retained = []
             self.stream.flush()
 
 

@@ -14,7 +14,7 @@ from typing import Any, Iterator
 # The seconds after which a request is given up, and the most bytes of a reply.
 SECONDS, LONGEST = 10.0, 4096
 # The most connections that are kept for the next requests.
-_KEPT = 8
+_STORED = 8
 
 
 class KeyFailed(Exception):
@@ -53,20 +53,20 @@ class _Connection:
 
     def ask(self, line: bytes, until: float) -> bytes:
         """The line that a request gets as its reply."""
-        held = b""
+        received = b""
         try:
             self._wait(until)
             self._socket.sendall(line)
-            while b"\n" not in held and len(held) < LONGEST:
+            while b"\n" not in received and len(received) < LONGEST:
                 self._wait(until)
-                if not (more := self._socket.recv(LONGEST - len(held))):
+                if not (more := self._socket.recv(LONGEST - len(received))):
                     raise _Closed
-                held += more
+                received += more
         except (BrokenPipeError, ConnectionResetError):
             raise _Closed from None
-        if held.find(b"\n") != len(held) - 1:
+        if received.find(b"\n") != len(received) - 1:
             raise ValueError("its reply is longer than a line may be, or has more than one")
-        return held
+        return received
 
     def close(self) -> None:
         self._socket.close()
@@ -78,7 +78,7 @@ class Outside:
 
     def __init__(self, path: str, seconds: float = SECONDS):
         self._path, self._seconds = path, seconds
-        self._kept: deque[_Connection] = deque()
+        self._stored: deque[_Connection] = deque()
         # Whether the last call had no reply in time, and what one call at a time has until the next reply.
         self._is_silent, self._turn = False, threading.Lock()
 
@@ -89,7 +89,7 @@ class Outside:
         """The bytes of a member of the reply to a request, as many as are expected. Nothing of them is verified."""
         with self._turns():
             try:
-                reply = self._asked(json.dumps(members, ensure_ascii=False).encode() + b"\n")
+                reply = self._requested(json.dumps(members, ensure_ascii=False).encode() + b"\n")
                 return _value_of(reply, member, size)
             except TimeoutError:
                 self._is_silent = True
@@ -114,7 +114,7 @@ class Outside:
         finally:
             self._turn.release()
 
-    def _asked(self, line: bytes) -> bytes:
+    def _requested(self, line: bytes) -> bytes:
         """The reply to a line. One that finds a connection closed, as after a restart of the process, is sent once more."""
         until = time.monotonic() + self._seconds
         connection, is_new = self._taken(until)
@@ -131,10 +131,10 @@ class Outside:
         """A connection, and whether it is a new one."""
         with suppress(IndexError):
             while True:
-                kept = self._kept.pop()
-                if kept.is_quiet():
-                    return kept, False
-                kept.close()
+                stored = self._stored.pop()
+                if stored.is_quiet():
+                    return stored, False
+                stored.close()
         return _Connection(self._path, until), True
 
     def _reply(self, connection: _Connection, line: bytes, until: float) -> bytes:
@@ -143,16 +143,16 @@ class Outside:
         except BaseException:
             connection.close()
             raise
-        if len(self._kept) < _KEPT:
-            self._kept.append(connection)
+        if len(self._stored) < _STORED:
+            self._stored.append(connection)
         else:
             connection.close()
         return reply
 
     def close(self) -> None:
         """Closes the connections that are kept."""
-        while self._kept:
-            self._kept.pop().close()
+        while self._stored:
+            self._stored.pop().close()
 
 
 def _value_of(reply: bytes, member: str, size: int) -> bytes:

@@ -136,12 +136,12 @@ class Queue:
             while True:
                 taken.append(self._new.popleft())
         try:
-            told = self._do("written", lambda cursor: [self._put(cursor, row) for row, _ in taken]) if taken else []
+            reported = self._do("written", lambda cursor: [self._put(cursor, row) for row, _ in taken]) if taken else []
         except Exception as error:
             for _, stored in taken:
                 stored.set_exception(error)
         else:
-            for (_, stored), is_stored in zip(taken, told):
+            for (_, stored), is_stored in zip(taken, reported):
                 stored.set_result(is_stored)
 
     def _put(self, cursor: Any, row: Row) -> bool:
@@ -201,5 +201,5 @@ def _each(cursor: Any, statement: str, rows: Sequence[tuple[Any, ...]]) -> None:
 
 def _cause(error: Exception) -> str:
     """What an error says without the values of a row."""
-    said = getattr(getattr(error, "diag", None), "message_primary", None) or str(error)
-    return re.sub(r"\s+", " ", said)
+    reply = getattr(getattr(error, "diag", None), "message_primary", None) or str(error)
+    return re.sub(r"\s+", " ", reply)

@@ -21,7 +21,7 @@ class Stapler:
     def __init__(self, holder: Holder, auditors: dict[str, Auditor]):
         self._holder, self._auditors = holder, auditors
         # By the epoch: the text, and the line of each auditor.
-        self._kept: dict[int, tuple[str, dict[str, str]]] = {}
+        self._stored: dict[int, tuple[str, dict[str, str]]] = {}
         self.failures = dict.fromkeys(auditors, 0)
 
     async def run(self) -> None:
@@ -49,20 +49,20 @@ class Stapler:
             raise BadNote("the note isn't cosigned by this auditor")
         if link_of(entries[:ENTRY_LENGTH]) != head.link:
             raise BadNote("the auditor has a head that this directory lacks: compare the entries, if that stays")
-        self._kept.setdefault(head.epoch, (note.text, {}))[1][url] = lines[-1]
-        for epoch in sorted(self._kept)[:-_EPOCHS]:
-            del self._kept[epoch]
+        self._stored.setdefault(head.epoch, (note.text, {}))[1][url] = lines[-1]
+        for epoch in sorted(self._stored)[:-_EPOCHS]:
+            del self._stored[epoch]
 
     @property
     def note(self) -> Optional[Note]:
         """The latest head that a quorum of all auditors cosigned, the latest one that any did if there is none."""
         least = quorum(len(self._auditors), (len(self._auditors) - 1) // 3) if self._auditors else 0
-        agreed = [epoch for epoch, (_, lines) in self._kept.items() if len(lines) >= least]
-        text, lines = self._kept.get(max(agreed or self._kept, default=0), ("", {}))
+        agreed = [epoch for epoch, (_, lines) in self._stored.items() if len(lines) >= least]
+        text, lines = self._stored.get(max(agreed or self._stored, default=0), ("", {}))
         return Note(text, tuple(lines.values())) if lines else None
 
     def note_of(self, name: str) -> Optional[Note]:
         """The latest head that the auditor of a name cosigned."""
         urls = [url for url, it in self._auditors.items() if it.name == name]
-        own = {epoch: Note(text, (lines[url],)) for epoch, (text, lines) in self._kept.items() for url in urls if url in lines}
+        own = {epoch: Note(text, (lines[url],)) for epoch, (text, lines) in self._stored.items() for url in urls if url in lines}
         return own[max(own)] if own else None

@@ -17,15 +17,15 @@ class Facts:
     """What was said first of each subject. Several threads may add to it."""
 
     def __init__(self) -> None:
-        self._said: dict[tuple[Union[str, int], ...], bytes] = {}
+        self._printed: dict[tuple[Union[str, int], ...], bytes] = {}
         self.latest, self.epochs = 0, set[int]()
 
     def __len__(self) -> int:
-        return len(self._said)
+        return len(self._printed)
 
     def add(self, value: bytes, *subject: Union[str, int]) -> None:
-        said = self._said.setdefault(subject, value)
-        assert said == value, (subject, said, value)
+        printed = self._printed.setdefault(subject, value)
+        assert printed == value, (subject, printed, value)
 
     def take(self, target: str, body: bytes, latest: int) -> None:
         """Takes what a GET of a target returned with status 200. `latest` is the latest epoch that was known when it was sent."""
@@ -48,9 +48,9 @@ class Facts:
             history = History(body)
             for epoch, proof in history.steps:
                 self._take_proof(given["name"], epoch, history.vrf, proof)
-        elif path.startswith("/v1/operations/") and (told := json.loads(body))["state"] == "stored":
+        elif path.startswith("/v1/operations/") and (reported := json.loads(body))["state"] == "stored":
             self.add(body, path)
-            self._take_entry(bytes.fromhex(told["entry"]))
+            self._take_entry(bytes.fromhex(reported["entry"]))
 
     def _take_entry(self, entry: bytes, least: int = 0) -> None:
         epoch = epoch_of(entry)

@@ -129,14 +129,14 @@ async def _operate(session: aiohttp.ClientSession, free: asyncio.Lock, op: str, 
     async with free:
         try:
             async with session.post("/v1/operations", json=body, headers=token) as found:
-                said = await found.json(content_type=None)
+                printed = await found.json(content_type=None)
                 is_accepted = found.status in (200, 202)
                 while found.status == 202:
                     found = await session.get(found.headers["Location"], headers={"Prefer": "wait=20"})
-                    said = await found.json(content_type=None)
+                    printed = await found.json(content_type=None)
         except (OSError, aiohttp.ClientError, asyncio.TimeoutError, ValueError):
             return Operation(name, key, None, is_accepted)
-        return Operation(name, key, said["epoch"] if found.status == 200 else None, is_accepted)
+        return Operation(name, key, printed["epoch"] if found.status == 200 else None, is_accepted)
 
 
 def changes(plan: Plan) -> list[str]:

@@ -78,10 +78,10 @@ class Machine:
     def do(self, text: str, user: str = "root") -> str:
         """Runs commands that succeed, and returns what they print."""
         ran = self.run(text, user)
-        assert ran.returncode == 0, f"{text}\nstatus {ran.returncode}\n{ran.stdout}{ran.stderr}\n{self.said()}"
+        assert ran.returncode == 0, f"{text}\nstatus {ran.returncode}\n{ran.stdout}{ran.stderr}\n{self.printed()}"
         return ran.stdout
 
-    def said(self) -> str:
+    def printed(self) -> str:
         """The end of what the services have said."""
         files = [self.root / f"var/log/coniks-{it}" for it in ("directory", "audit")]
         return "".join(it.read_text()[-2000:] for it in files if it.exists())

@@ -133,8 +133,8 @@ def test_block(packages: None, room: Path, block: Block) -> None:
     assert all(f"audit{n}.example.org" in cosigned for n, (_, cosigned) in enumerate(notes, 1))
     assert len({text.splitlines()[0] for text, _ in notes}) == 1, "both are of one directory and policy"
     assert not [it for n in (1, 2) if (it := made / f"audit{n}/alarm").exists()]
-    told = [json.loads(it) for it in (made / "service.log").read_text("utf-8").splitlines()]
-    assert "serving" in [it["event"] for it in told]
+    reported = [json.loads(it) for it in (made / "service.log").read_text("utf-8").splitlines()]
+    assert "serving" in [it["event"] for it in reported]
 
 
 @pytest.mark.parametrize("span", [it for it in SPAN.findall(README) if it not in NOT_RUN])
@@ -183,5 +183,5 @@ def test_toolchain() -> None:
     """The README names the toolchain that is here."""
     if not shutil.which("rt"):
         pytest.skip("rt is missing")
-    said = subprocess.run(["rt", "version"], capture_output=True, text=True).stdout.strip()
-    assert f"`{said}`" in README
+    printed = subprocess.run(["rt", "version"], capture_output=True, text=True).stdout.strip()
+    assert f"`{printed}`" in README

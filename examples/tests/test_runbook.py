@@ -144,8 +144,8 @@ def test_proxy(machine: Machine) -> None:
     certificate = "openssl req -x509 -newkey ec -pkeyopt ec_paramgen_curve:P-256 -nodes -days 1 -subj /CN=keys.example.com"
     machine.do(f"mkdir -p /etc/ssl/coniks; cd /etc/ssl/coniks; {certificate} -keyout privkey.pem -out fullchain.pem")
     machine.do(block("Make the directory", 2))
-    asked = "curl -sk --resolve keys.example.com:443:127.0.0.1 -w '%{http_code}' -o /dev/null https://keys.example.com"
-    assert [machine.do(f"{asked}{it}") for it in ("/v1/policy", "/v1/entries", "/metrics")] == ["200", "200", "404"]
+    requested = "curl -sk --resolve keys.example.com:443:127.0.0.1 -w '%{http_code}' -o /dev/null https://keys.example.com"
+    assert [machine.do(f"{requested}{it}") for it in ("/v1/policy", "/v1/entries", "/metrics")] == ["200", "200", "404"]
 
 
 def test_tokens(machine: Machine, token: str) -> None:
@@ -161,10 +161,10 @@ def test_tokens(machine: Machine, token: str) -> None:
 
 def compact(machine: Machine) -> None:
     """Compacts when there is an epoch to forget."""
-    said = machine.root / "var/log/coniks-directory"
-    before = said.read_text().count('"event": "compact"')
+    printed = machine.root / "var/log/coniks-directory"
+    before = printed.read_text().count('"event": "compact"')
     machine.do(block("Compact"))
-    until(lambda: said.read_text().count('"event": "compact"') > before)
+    until(lambda: printed.read_text().count('"event": "compact"') > before)
 
 
 def test_back_up_and_restore(machine: Machine, token: str) -> None:
@@ -174,8 +174,8 @@ def test_back_up_and_restore(machine: Machine, token: str) -> None:
     machine.do(block("Back up and restore"))
     machine.do("systemctl stop coniks-directory")
     machine.do(block("Back up and restore"))
-    told = json.loads(machine.do(block("Back up and restore", 1)))
-    assert told["ok"] == "replay" and told["names"] >= 1, told
+    reported = json.loads(machine.do(block("Back up and restore", 1)))
+    assert reported["ok"] == "replay" and reported["names"] >= 1, reported
     entries = machine.do("sha256sum < /var/lib/coniks/names.log")
     record = machine.do("cat /var/lib/coniks-guard/names.guard")
     machine.do("shred -n 1 /var/lib/coniks/names.log")
@@ -277,7 +277,7 @@ coniks-client() {
 def client(machine: Machine, words: str, status: int = 0) -> str:
     """What commands print to the user."""
     ran = machine.run(f"export HOME=/home/client; cd /home/client; {AGAIN}{words}", "client")
-    assert ran.returncode == status, ran.stdout + ran.stderr + machine.said()
+    assert ran.returncode == status, ran.stdout + ran.stderr + machine.printed()
     return ran.stdout
 
 

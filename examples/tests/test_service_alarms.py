@@ -59,9 +59,9 @@ def test_metrics(other: Running, library: None, tmp_path: Path, monkeypatch: pyt
     finally:
         auditor.process.kill()
         auditor.process.wait()
-    told = other.get("/metrics").body.decode() + (auditor.home / "audit/metrics").read_text()
+    reported = other.get("/metrics").body.decode() + (auditor.home / "audit/metrics").read_text()
     lacking = {
-        it for it in map(metric_of, rules().values()) if not re.search(rf"^(# TYPE )?{it.removesuffix('_total')}", told, re.M)
+        it for it in map(metric_of, rules().values()) if not re.search(rf"^(# TYPE )?{it.removesuffix('_total')}", reported, re.M)
     }
     assert lacking == {"up", "coniks_lag_seconds"} and len(rules()) > 10
 

@@ -121,12 +121,12 @@ def test_one_connection_too_many(other: Running) -> None:
     """A connection beyond the limit is reset at once, while the others stay. One that has ended leaves room at once."""
     other.start("--connections", "50", "--patience", "600")
     with ExitStack() as opened:
-        kept = [opened.enter_context(connected(other)) for _ in range(50)]
+        stored = [opened.enter_context(connected(other)) for _ in range(50)]
         for _ in range(20):
             with connected(other) as refused:
                 assert ends(refused)
-        assert not is_served(other) and not select.select(kept, [], [], 0)[0]
-        kept[0].close()
+        assert not is_served(other) and not select.select(stored, [], [], 0)[0]
+        stored[0].close()
         until(lambda: is_served(other))
         # One after another, each as soon as that before has ended.
         assert {other.ask("/healthz").status for _ in range(50)} == {200}
@@ -136,15 +136,15 @@ def test_connections_of_one_address(other: Running) -> None:
     """An address has a part of all connections: those beyond end at once, while the others stay and others are served."""
     other.start("--connections", "400", "--patience", "600")
     with ExitStack() as opened:
-        kept = [opened.enter_context(connected(other, "127.0.0.2")) for _ in range(20)]
+        stored = [opened.enter_context(connected(other, "127.0.0.2")) for _ in range(20)]
         for _ in range(20):
             with connected(other, "127.0.0.2") as refused:
                 assert ends(refused)
-        assert is_served(other) and not select.select(kept, [], [], 0)[0]
-        kept[0].close()
+        assert is_served(other) and not select.select(stored, [], [], 0)[0]
+        stored[0].close()
         until(lambda: b"200 OK" in answered(other, "127.0.0.2", GET + b"\r\n"))
         # Others take all that are left.
-        for _ in range(400 - len(kept[1:])):
+        for _ in range(400 - len(stored[1:])):
             opened.enter_context(connected(other))
         until(lambda: not is_served(other))
 
@@ -153,8 +153,8 @@ def test_connections_of_a_proxy(other: Running) -> None:
     """The connections of a proxy are the proxy's to bound."""
     other.start("--connections", "100", "--patience", "600", "--behind-proxy")
     with ExitStack() as opened:
-        kept = [opened.enter_context(connected(other, "127.0.0.2")) for _ in range(90)]
-        assert is_served(other) and not select.select(kept, [], [], 0)[0]
+        stored = [opened.enter_context(connected(other, "127.0.0.2")) for _ in range(90)]
+        assert is_served(other) and not select.select(stored, [], [], 0)[0]
 
 
 def answered(service: Running, address: str, part: bytes) -> bytes:
@@ -267,9 +267,9 @@ BOMBS: dict[str, tuple[list[bytes], Optional[bytes]]] = {
 @pytest.mark.parametrize("parts, status", BOMBS.values(), ids=BOMBS)
 def test_bombs(service: Running, parts: list[bytes], status: Optional[bytes]) -> None:
     """The service takes a bounded part of what is sent. If a reply is expected, it comes unless the connection was reset first."""
-    said = service.send(*parts)
-    found = re.match(rb"HTTP/1.1 (\d+)", said)
-    assert not (status and found) or (found and found[1] == status), said[:300]
+    printed = service.send(*parts)
+    found = re.match(rb"HTTP/1.1 (\d+)", printed)
+    assert not (status and found) or (found and found[1] == status), printed[:300]
     assert not found or found[1] != b"500"
 
 
@@ -371,34 +371,34 @@ def malformed(draw: random.Random, target: str) -> bytes:
 
 def replied(connection: socket.socket, seconds: float) -> bytes:
     """The first reply, or what comes of it until nothing comes for some seconds."""
-    said = b""
+    printed = b""
     while more := received_once(connection, seconds):
-        said += more
-        head, _, body = said.partition(b"\r\n\r\n")
+        printed += more
+        head, _, body = printed.partition(b"\r\n\r\n")
         length = re.search(rb"^content-length: (\d+)\r?$", head, re.M | re.I)
         if length and len(body) >= int(length[1]):
             break
-    return said
+    return printed
 
 
-def statuses(said: bytes) -> list[int]:
-    return [int(it) for it in re.findall(rb"^HTTP/1\.[01] (\d{3}) ", said, re.M)]
+def statuses(printed: bytes) -> list[int]:
+    return [int(it) for it in re.findall(rb"^HTTP/1\.[01] (\d{3}) ", printed, re.M)]
 
 
 def tried(service: Running, facts: Facts, seconds: float, request: Request) -> int:
     """Sends a request. Checks the reply, if one comes within some seconds, and returns its status, 0 without one."""
-    latest, said, part = facts.latest, b"", request.part
+    latest, printed, part = facts.latest, b"", request.part
     with suppress(OSError), connected(service) as connection:
         sent(connection, part)
-        said = replied(connection, 20 if request.is_well_formed else seconds)
-    assert said == b"" or said.startswith(b"HTTP/"), (part, said[:300])
-    assert 500 not in statuses(said), (part, said[:500])
-    asked = re.match(rb"GET (\S+) HTTP/1\.[01]\r\n", part)
-    head, _, body = said.partition(b"\r\n\r\n")
+        printed = replied(connection, 20 if request.is_well_formed else seconds)
+    assert printed == b"" or printed.startswith(b"HTTP/"), (part, printed[:300])
+    assert 500 not in statuses(printed), (part, printed[:500])
+    requested = re.match(rb"GET (\S+) HTTP/1\.[01]\r\n", part)
+    head, _, body = printed.partition(b"\r\n\r\n")
     length = re.search(rb"^content-length: (\d+)\r?$", head, re.M | re.I)
-    if asked and length and len(body) == int(length[1]) and statuses(said) == [200]:
-        facts.take(asked[1].decode("utf-8", "surrogateescape"), body, latest)
-    return (statuses(said) or [0])[-1]
+    if requested and length and len(body) == int(length[1]) and statuses(printed) == [200]:
+        facts.take(requested[1].decode("utf-8", "surrogateescape"), body, latest)
+    return (statuses(printed) or [0])[-1]
 
 
 def changes(service: Running, names: Sequence[str], end: threading.Event) -> None:

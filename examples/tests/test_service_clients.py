@@ -83,13 +83,13 @@ def test_life(people: list[Person], service: Running) -> None:
     assert bob.until(0, "lookup", "łucja@example.com")[0]["change"] == "vouched"
     first_epoch = alice.until(0, "watch")[0]["epochs"][0]
     until(lambda: bool(service.get("/v1/head").json["epoch"] > first_epoch + 2), 60)
-    told = set[int]()
+    reported = set[int]()
 
     def is_watched() -> bool:
         """Whether a run says that all is well, and it and those before have told more epochs than one: each tells what it has verified."""
         status, lines = alice.run("watch")
-        told.update(epoch for it in lines for epoch in it.get("epochs", []) if epoch > first_epoch)
-        return status == 0 and len(told) > 1
+        reported.update(epoch for it in lines for epoch in it.get("epochs", []) if epoch > first_epoch)
+        return status == 0 and len(reported) > 1
 
     until(is_watched)
     assert bob.until(4, "lookup", "nobody") and bob.until(0, "evidence")

@@ -27,7 +27,7 @@ import collecting
 import ecvrf
 from coniks import provider
 from coniks.provider import Change, LogRefused, Operation, Overtaken, Register
-from collecting import Asked, Collector, committed, shown_key
+from collecting import Collector, Requested, committed, shown_key
 from holders import collector_of, judged, made, opened
 from holding import Keys
 from problems import Problem
@@ -169,9 +169,9 @@ def fail_once(monkeypatch: pytest.MonkeyPatch, target: Any, call: str, error: Ex
     monkeypatch.setattr(target, call, once)
 
 
-def epoch_in(asked: Asked) -> int:
+def epoch_in(requested: Requested) -> int:
     """The epoch of a receipt."""
-    entry = asked.outcome.result()
+    entry = requested.outcome.result()
     assert isinstance(entry, bytes)
     return int.from_bytes(entry[1:9], "big")
 
@@ -229,16 +229,16 @@ def test_failed_signer(program: str, tmp_path: Path, monkeypatch: pytest.MonkeyP
         fail_once(monkeypatch, holder.keys._signer, "sign", OSError("away"))
 
         async def story() -> None:
-            asked = await collector.collect(judged(Register("alice", b"key")))
+            requested = await collector.collect(judged(Register("alice", b"key")))
             await collector.commit()
-            assert not asked.outcome.done() and collector.failures == 1 and holder.provider.pending
+            assert not requested.outcome.done() and collector.failures == 1 and holder.provider.pending
             with pytest.raises(Problem):
                 await collector.collect(judged(Register("alice", b"other")))
             second = await collector.collect(judged(Register("bob", b"key")))
             epoch = holder.provider.pending.epoch
             monkeypatch.setattr(type(holder.provider), "epoch_now", lambda self: epoch + 7)
             await collector.commit()
-            assert epoch_in(asked) == epoch and not second.outcome.done()
+            assert epoch_in(requested) == epoch and not second.outcome.done()
             await collector.commit()
             assert epoch_in(second) == epoch + 7 and collector.failures == 0
 
@@ -278,9 +278,9 @@ def test_refused_operations(program: str, tmp_path: Path) -> None:
                 Change("carol", b"3"),
                 Register("dave", b"4"),
             ]
-            asked = [await collector.collect(judged(it)) for it in operations]
+            requested = [await collector.collect(judged(it)) for it in operations]
             await collector.commit()
-            return [it.outcome.result() for it in asked]
+            return [it.outcome.result() for it in requested]
 
         one, taken, unknown, four = asyncio.run(story())
         assert one == four == holder.provider.chain()[-1] and holder.provider.latest().epoch == 2
@@ -299,7 +299,7 @@ def test_full_epoch(program: str, tmp_path: Path, monkeypatch: pytest.MonkeyPatc
         monkeypatch.setattr(type(holder.provider), "epoch_now", lambda _: clock[0])
 
         async def story() -> list[int]:
-            asked = [await collector.collect(judged(Register(f"name{number}", b"key"))) for number in range(8)]
+            requested = [await collector.collect(judged(Register(f"name{number}", b"key"))) for number in range(8)]
             with pytest.raises(Problem, match="8 operations wait") as refused:
                 await collector.collect(judged(Register("one more", b"key")))
             # The second epoch of 1,000 seconds is 5 seconds old when the directory is made.
@@ -307,7 +307,7 @@ def test_full_epoch(program: str, tmp_path: Path, monkeypatch: pytest.MonkeyPatc
             for clock[0] in (2, 3, 4):
                 await collector.commit()
             await collector.stop()
-            return [epoch_in(it) for it in asked]
+            return [epoch_in(it) for it in requested]
 
         assert asyncio.run(story()) == [2, 2, 2, 3, 3, 3, 4, 4]
         assert holder.provider.latest().names == 8
@@ -317,24 +317,24 @@ def test_end_amid_a_commit(program: str, tmp_path: Path, monkeypatch: pytest.Mon
     """A commit whose task is cancelled goes on in its thread, and who waits has the receipt all the same."""
     with made(program, tmp_path) as holder:
         collector, sign = collector_of(holder), holder.keys._signer.sign
-        is_asked, may_sign = threading.Event(), threading.Event()
+        is_requested, may_sign = threading.Event(), threading.Event()
 
         def slowly(body: bytes) -> Any:
-            is_asked.set()
+            is_requested.set()
             assert may_sign.wait(60)
             return sign(body)
 
         async def story() -> Any:
             monkeypatch.setattr(holder.keys._signer, "sign", slowly)
-            asked = await collector.collect(judged(Register("alice", b"key")))
+            requested = await collector.collect(judged(Register("alice", b"key")))
             committing = asyncio.create_task(collector.commit())
-            await asyncio.to_thread(is_asked.wait, 60)
+            await asyncio.to_thread(is_requested.wait, 60)
             committing.cancel()
             await asyncio.gather(committing, return_exceptions=True)
-            assert not asked.outcome.done()
+            assert not requested.outcome.done()
             may_sign.set()
             await collector.stop()
-            return asked.outcome.result()
+            return requested.outcome.result()
 
         assert asyncio.run(story()) == holder.provider.chain()[-1] and holder.provider.latest().epoch == 2
 
@@ -378,23 +378,23 @@ def test_killed_child(program: str, tmp_path: Path, caplog: pytest.LogCaptureFix
     caplog.set_level("INFO")
     with made(program, tmp_path) as holder:
 
-        def said() -> list[Any]:
+        def printed() -> list[Any]:
             return [vars(it)["members"]["pids"] for it in caplog.records if it.getMessage() == "children"]
 
         async def story() -> int:
             running = asyncio.create_task(collector_of(holder).run())
             before = holder.provider.pid
-            while said() != [[before]]:
+            while printed() != [[before]]:
                 await asyncio.sleep(0.1)
             os.kill(before, signal.SIGKILL)
-            while not said()[-1] == [holder.provider.pid] != [before]:
+            while not printed()[-1] == [holder.provider.pid] != [before]:
                 await asyncio.sleep(0.1)
             running.cancel()
             await asyncio.gather(running, return_exceptions=True)
             return int(before)
 
         killed = asyncio.run(asyncio.wait_for(story(), 60))
-        assert said()[0] == [killed] and said()[-1] == [holder.provider.pid] != [killed]
+        assert printed()[0] == [killed] and printed()[-1] == [holder.provider.pid] != [killed]
 
 
 @pytest.mark.parametrize(
@@ -449,12 +449,12 @@ def test_overtaken(program: str, tmp_path: Path, monkeypatch: pytest.MonkeyPatch
 
         async def story() -> Any:
             fail_once(monkeypatch, type(holder.provider), "commit", Overtaken("planted"))
-            asked = await collector.collect(judged(Register("alice", b"key")))
+            requested = await collector.collect(judged(Register("alice", b"key")))
             with pytest.raises(Overtaken):
                 await collector.run()
             with pytest.raises(Problem, match="the writer"):
                 await collector.collect(judged(Register("bob", b"key")))
             await collector.stop()
-            return asked.outcome.cancelled()
+            return requested.outcome.cancelled()
 
         assert asyncio.run(story()) and holder.provider.latest().epoch == epoch

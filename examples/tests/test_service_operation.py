@@ -79,9 +79,9 @@ def proxied(other: Running, tmp_path: Path) -> Iterator[str]:
 
 def fetched(url: str, **headers: str) -> tuple[int, bytes]:
     trusting = ssl._create_unverified_context()
-    asked = urllib.request.Request(url, headers={name.replace("_", "-"): it for name, it in headers.items()})
+    requested = urllib.request.Request(url, headers={name.replace("_", "-"): it for name, it in headers.items()})
     try:
-        with urllib.request.urlopen(asked, context=trusting, timeout=10) as found:
+        with urllib.request.urlopen(requested, context=trusting, timeout=10) as found:
             return found.status, found.read()
     except urllib.error.HTTPError as error:
         return error.code, error.read()
@@ -102,8 +102,8 @@ def test_proxy(proxied: str, other: Running, tmp_path: Path) -> None:
         assert fetched(proxied + target)[0] in (400, 404), target
     found = {fetched(f"{proxied}/v1/head", X_Forwarded_For=f"192.0.2.{it}")[0] for it in range(40)}
     assert 429 in found, "a client that makes up addresses is counted as one"
-    said = (tmp_path / "coniks.log").read_text()
-    assert "/v1/lookup" in said and "name=" not in said
+    printed = (tmp_path / "coniks.log").read_text()
+    assert "/v1/lookup" in printed and "name=" not in printed
 
 
 def test_container_file() -> None:
@@ -126,8 +126,8 @@ def refused_start(service: Running) -> str:
     words = [*service._words("run"), "--listen", "127.0.0.1:0"]
     ran = subprocess.run(words, capture_output=True, text=True, timeout=120)
     assert ran.returncode == 1 and "Traceback" not in ran.stderr, ran.stderr
-    said: str = json.loads(ran.stderr.splitlines()[-1])["error"]
-    return said
+    printed: str = json.loads(ran.stderr.splitlines()[-1])["error"]
+    return printed
 
 
 def test_wrong_keys(other: Running) -> None:

@@ -18,7 +18,7 @@ pytest.importorskip("aiohttp")
 pytest.importorskip("nacl.signing")
 
 import collecting
-from collecting import Asked, Collector, Outcome, shown_key
+from collecting import Collector, Outcome, Requested, shown_key
 from coniks.provider import Change, FileLog, Operation, Register
 from connections import Bounds
 from endpoints import Endpoints
@@ -60,11 +60,11 @@ def test_accepted_operations(packages: None, program: str, tmp_path: Path, numbe
         other.process.wait()
 
 
-def ask(collector: Collector, *operations: Operation) -> list[Asked]:
-    async def asked() -> list[Asked]:
+def ask(collector: Collector, *operations: Operation) -> list[Requested]:
+    async def requested() -> list[Requested]:
         return [await collector.collect(judged(it)) for it in operations]
 
-    return asyncio.run(asked())
+    return asyncio.run(requested())
 
 
 def commit(collector: Collector, clock: list[int], *epochs: int) -> None:
@@ -75,12 +75,12 @@ def commit(collector: Collector, clock: list[int], *epochs: int) -> None:
     asyncio.run(run())
 
 
-def outcomes(collector: Collector, asked: Iterable[Asked]) -> list[Any]:
+def outcomes(collector: Collector, requested: Iterable[Requested]) -> list[Any]:
     """What became of operations."""
-    return told(collector.outcomes.get(it.number) for it in asked)
+    return reported(collector.outcomes.get(it.number) for it in requested)
 
 
-def told(found: Iterable[Optional[Outcome]]) -> list[Any]:
+def reported(found: Iterable[Optional[Outcome]]) -> list[Any]:
     """Of each outcome the number of the epoch, the error, or None while it isn't decided."""
     results = [it.result() if it and it.done() else None for it in found]
     return [int.from_bytes(it[1:9], "big") if isinstance(it, bytes) else it and it.fault for it in results]
@@ -119,7 +119,7 @@ def test_ends_amid_a_commit(
     operations = [Register("alice", b"1"), Register("bob", b"2")]
     with made(program, tmp_path) as holder:
         collector = collector_of(holder)
-        asked = ask(collector, *operations)
+        requested = ask(collector, *operations)
         with monkeypatch.context() as patched:
             dies(at, patched)
             with suppress(Ended):
@@ -127,8 +127,8 @@ def test_ends_amid_a_commit(
     with opened(program, tmp_path) as holder:
         collector = collector_of(holder)
         commit(collector, clock, *later)
-        told = outcomes(collector, asked)
-        assert told in ([2, 2], [3, 3]) and collector.failures == 0
+        reported = outcomes(collector, requested)
+        assert reported in ([2, 2], [3, 3]) and collector.failures == 0
         assert [shown_key(holder.provider.lookup(it.name)) for it in operations] == [b"1", b"2"]
         assert holder.provider.latest().names == 2 and collector.pending == 0
     with opened(program, tmp_path) as holder:
@@ -150,7 +150,7 @@ def test_refused_in_a_batch(program: str, tmp_path: Path, monkeypatch: pytest.Mo
     """What the program refuses is none of the batch that a start finds in the queue."""
     with made(program, tmp_path, operations=[Register("bob", b"key")]) as holder:
         collector = collector_of(holder)
-        asked = ask(collector, Register("alice", b"1"), Register("bob", b"2"), Register("carol", b"3"))
+        requested = ask(collector, Register("alice", b"1"), Register("bob", b"2"), Register("carol", b"3"))
         real, count = Queue.drop, [0]
 
         def drop(self: Queue, numbers: Any) -> Any:
@@ -162,11 +162,11 @@ def test_refused_in_a_batch(program: str, tmp_path: Path, monkeypatch: pytest.Mo
         monkeypatch.setattr(Queue, "drop", drop)
         with suppress(Ended):
             commit(collector, clock, 2)
-        assert outcomes(collector, asked) == [None if ends else 2, "NameTaken", None if ends else 2]
+        assert outcomes(collector, requested) == [None if ends else 2, "NameTaken", None if ends else 2]
     with opened(program, tmp_path) as holder:
         collector = collector_of(holder)
         commit(collector, clock, 3)
-        assert outcomes(collector, asked) == [2 if ends else None, None, 2 if ends else None]
+        assert outcomes(collector, requested) == [2 if ends else None, None, 2 if ends else None]
         assert holder.provider.latest().epoch == 3
 
 
@@ -186,7 +186,7 @@ def test_old_queue(program: str, tmp_path: Path, clock: list[int]) -> None:
         # The one of whom nothing is known but the name has no credentials.
         collector = Collector(holder, lambda request: bool(request.headers))
         commit(collector, clock, 4, 5)
-        assert told(collector.outcomes.values()) == ["Forbidden", "Forbidden"]
+        assert reported(collector.outcomes.values()) == ["Forbidden", "Forbidden"]
         assert [shown_key(holder.provider.lookup(it)) for it in ("alice", "bob")] == [b"3", b"1"]
 
 
@@ -217,9 +217,9 @@ def test_full_disk_of_the_queue(program: str, tmp_path: Path, monkeypatch: pytes
             with pytest.raises(QueueFailed, match="log.queue can't be written: database or disk is full"):
                 ask(collector, Register("alice", b"1"))
         assert collector.pending == 0 and collector.outcomes == {}
-        [asked] = ask(collector, Register("alice", b"2"))
+        [requested] = ask(collector, Register("alice", b"2"))
         commit(collector, clock, 2)
-        assert outcomes(collector, [asked]) == [2]
+        assert outcomes(collector, [requested]) == [2]
 
 
 def test_no_queue(program: str, tmp_path: Path) -> None:
@@ -244,7 +244,7 @@ def test_together(program: str, tmp_path: Path, monkeypatch: pytest.MonkeyPatch)
 
         monkeypatch.setattr(Queue, "_do", counted)
 
-        async def story() -> list[Asked]:
+        async def story() -> list[Requested]:
             return await asyncio.gather(*(collector.collect(judged(Register(f"name{it}", b"key"))) for it in range(500)))
 
         assert len({it.number for it in asyncio.run(story())}) == 500 and len(groups) < 50
@@ -286,12 +286,14 @@ def test_of_another_writer(program: str, tmp_path: Path, clock: list[int]) -> No
 def test_judged_once(program: str, tmp_path: Path, clock: list[int]) -> None:
     """An operation of the queue whose name has the key by which it was judged is not judged again, which would take its credentials."""
     with made(program, tmp_path, operations=[Register("alice", b"1")]) as holder:
-        asked = asyncio.run(collector_of(holder).collect(collecting.Judged(Change("alice", b"2"), {"Authorization": "a"}, b"1", 1)))
+        requested = asyncio.run(
+            collector_of(holder).collect(collecting.Judged(Change("alice", b"2"), {"Authorization": "a"}, b"1", 1))
+        )
     with opened(program, tmp_path) as holder:
         holder.provider.commit(2, [], force=True)
         collector = Collector(holder, lambda request: bool(request.headers))
         commit(collector, clock, 3)
-        assert outcomes(collector, [asked]) == [3]
+        assert outcomes(collector, [requested]) == [3]
 
 
 def test_error_of_a_full_disk(packages: None) -> None:

@@ -51,8 +51,8 @@ class Racing:
         """Whether a record is stored that was sent at a random moment."""
         await asyncio.sleep(random.uniform(0, 0.15))
         with suppress(Problem):
-            asked = await self.collector.take(Change(name, key), {})
-            return isinstance(await asked.outcome, bytes)
+            requested = await self.collector.take(Change(name, key), {})
+            return isinstance(await requested.outcome, bytes)
         return False
 
     async def both(self, name: str) -> int:
@@ -105,9 +105,9 @@ def test_judged_again(program: str, tmp_path: Path, monkeypatch: pytest.MonkeyPa
             late = [Judged(Change(it, b"3"), {}, b"1", 1) for it in ("alice", "bob")]
             holder.provider.commit(2, [Change("alice", b"2")])
             monkeypatch.setattr(type(holder.provider), "epoch_now", lambda _: 3)
-            asked = [await collector.collect(it) for it in late]
+            requested = [await collector.collect(it) for it in late]
             await collector.commit()
-            return [it.outcome.result() for it in asked]
+            return [it.outcome.result() for it in requested]
 
         alice, bob = asyncio.run(story())
         assert isinstance(alice, Problem) and (alice.status, alice.fault) == (403, "Forbidden")

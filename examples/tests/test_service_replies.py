@@ -142,13 +142,13 @@ def test_credentials(service: Running) -> None:
 def test_caches(service: Running) -> None:
     """What never changes may be kept for ever, and what is somebody's by nobody else."""
     first = service.first()
-    for target, said in [
+    for target, printed in [
         ("/v1/policy", "public, max-age=3600"), ("/v1/entries", "no-store"),
         ("/v1/head", "no-store"), (named("a"), "no-store"), (f"/v1/history?name=a&first={first}&last={first}", "no-store"),
         (f"{named('a')}&epoch={first}", "private, max-age=31536000, immutable"), (named(""), "no-store"), ("/healthz", "no-store"),
     ]:  # fmt: skip
         answer = service.get(target)
-        assert answer.headers["cache-control"] == said, target
+        assert answer.headers["cache-control"] == printed, target
         assert service.ask(target, "HEAD").headers["content-length"] == str(len(answer.body)) or target == "/v1/entries"
 
 
@@ -203,12 +203,12 @@ def test_nothing_secret_is_logged(service: Running) -> None:
     service.operate("register", secret.lower(), secret.encode())
     service.operate("register", secret.lower(), b"x", Authorization=f"Bearer {secret}")
     service.send(f"GET /{secret}\x00 HTTP/1.1\r\n{secret}\r\n\r\n".encode(), seconds=3)
-    said = service.errors.read_text() + service.get("/metrics").body.decode()
-    assert secret.lower() not in said.lower() and '"event": "request"' in said
+    printed = service.errors.read_text() + service.get("/metrics").body.decode()
+    assert secret.lower() not in printed.lower() and '"event": "request"' in printed
     for line in service.lines():
         assert {"time", "level", "event"} <= line.keys()
     opening = re.search(r'"opening":"([0-9a-f]{64})"', (service.room / "log").read_text())
-    assert opening and opening[1] not in said
+    assert opening and opening[1] not in printed
 
 
 def test_canonical_names() -> None:
@@ -308,10 +308,10 @@ def test_epochs_that_are_forgotten_meanwhile(packages: None) -> None:
     from coniks.provider import UnknownEpoch
     from endpoints import Endpoints
 
-    asked, metrics, nothing = list[int](), Mock(first=0), Mock()
+    requested, metrics, nothing = list[int](), Mock(first=0), Mock()
 
     def history(name: str, proof: object, first: int, last: int) -> bytes:
-        asked.append(first)
+        requested.append(first)
         if first < 5 or last > 9:
             raise UnknownEpoch
         return b"history"
@@ -320,8 +320,8 @@ def test_epochs_that_are_forgotten_meanwhile(packages: None) -> None:
     chain = [bytes(1) + number.to_bytes(8, "big") + bytes(200) for number in range(1, 10)]
     nothing.holder.directory = Mock(history=history, chain=lambda: chain)
     served: Any = Endpoints(nothing, nothing, metrics, Bounds())
-    assert served._history("alice", 1, 9) == b"history" and asked == [1, 5]
-    assert served._history("alice", 7, 9) == b"history" and asked[2:] == [7]
+    assert served._history("alice", 1, 9) == b"history" and requested == [1, 5]
+    assert served._history("alice", 7, 9) == b"history" and requested[2:] == [7]
     with pytest.raises(UnknownEpoch):
         served._history("alice", 1, 10)
 
@@ -359,8 +359,8 @@ def is_latest_seen(service: Running) -> bool:
 def test_too_many_requests(other: Running) -> None:
     """Each address has its own requests, as the proxy says it, and others later."""
     other.start("--rate", "1", "--behind-proxy")
-    said = [other.get("/v1/policy", X_Forwarded_For="10.9.9.9, 192.0.2.1") for _ in range(40)]
-    refused = [it for it in said if it.status != 200]
+    printed = [other.get("/v1/policy", X_Forwarded_For="10.9.9.9, 192.0.2.1") for _ in range(40)]
+    refused = [it for it in printed if it.status != 200]
     assert len(refused) >= 20 and {it.fault for it in refused} == {"TooOften"}
     assert {it.headers["retry-after"] for it in refused} <= {"1", "2", "3", "4"}
     assert other.get("/v1/policy", X_Forwarded_For="192.0.2.1, 192.0.2.2").status == 200
@@ -402,13 +402,13 @@ def test_one_history(packages: None) -> None:
     nothing.holder.directory = Mock(history=history, chain=lambda: [bytes(209)])
     served: Any = Endpoints(nothing, nothing, Mock(first=0), Bounds(is_behind_proxy=True))
 
-    async def asked(name: str, address: str) -> Any:
+    async def requested(name: str, address: str) -> Any:
         request = make_mocked_request("GET", "/v1/history", headers={"X-Forwarded-For": address})
         request["query"] = {"name": name, "first": "0", "last": "9"}
         return (await served.history(request)).body
 
-    async def all_asked() -> Any:
-        return await asyncio.gather(*(asked(*it) for it in wanted.items()))
+    async def all_requested() -> Any:
+        return await asyncio.gather(*(requested(*it) for it in wanted.items()))
 
     wanted = {
         "a1": "192.0.2.1",
@@ -418,7 +418,7 @@ def test_one_history(packages: None) -> None:
         "b2": "2001:db8::2",
         "c1": "192.0.2.3",
     }
-    assert asyncio.run(all_asked()) == [it.encode() for it in wanted]
+    assert asyncio.run(all_requested()) == [it.encode() for it in wanted]
     assert order == ["a1", "b1", "c1", "a2", "b2", "a3"]
 
 
@@ -447,8 +447,8 @@ def test_tokens(packages: None, tmp_path: Path, caplog: pytest.LogCaptureFixture
     for text in ["secret token alice\n", line(two, "alice") + "\n", line(two, "").rstrip(" \n") + "\n"]:
         path.write_text(text)
         assert may(f"Bearer {two}"), "what is no file of tokens changes nothing"
-        told = str(vars(caplog.records[-1])["members"])
-        assert "of the tokens is not" in told and "secret" not in told
+        reported = str(vars(caplog.records[-1])["members"])
+        assert "of the tokens is not" in reported and "secret" not in reported
         with pytest.raises(ValueError, match="of the tokens is not"):
             Tokens(path)
     path.unlink()
@@ -466,7 +466,7 @@ class Together:
         self.sizes: list[int] = []
         self.is_free = threading.Event()
 
-    def kept_proof(self, name: str) -> Optional[bytes]:
+    def stored_proof(self, name: str) -> Optional[bytes]:
         return None if name.startswith("new") else b"proof of " + name.encode()
 
     def proof(self, name: str) -> bytes:

@@ -174,13 +174,13 @@ def test_restarts(place: Path) -> None:
         listener.close()
 
 
-def test_unasked_lines(place: Path) -> None:
+def test_unrequested_lines(place: Path) -> None:
     """What comes after a reply is no reply to the next request."""
     listener, outside = Listener(place, lambda _: GOOD), Outside(str(place), 5)
     outside.ask("signature", 64, cmd="sign")
-    [kept] = outside._kept
+    [stored] = outside._stored
     ours, theirs = socket.socketpair(socket.AF_UNIX)
-    kept._socket = ours
+    stored._socket = ours
     theirs.sendall(b'{"signature":"%s"}\n' % (b"08" * 64))
     assert outside.ask("signature", 64, cmd="sign") == b"\7" * 64
     listener.close()
@@ -197,15 +197,15 @@ def policy_in(folder: Path) -> None:
 def test_nothing_is_used_unverified(place: Path, tmp_path: Path) -> None:
     """Signatures of another body or key, and proofs of another name or key, are errors."""
     policy_in(tmp_path / "keys")
-    said: dict[str, str] = {}
-    listener, outside = Listener(place, lambda _: json.dumps(said).encode() + b"\n"), Outside(str(place), 5)
+    printed: dict[str, str] = {}
+    listener, outside = Listener(place, lambda _: json.dumps(printed).encode() + b"\n"), Outside(str(place), 5)
     keys, body = Keys(tmp_path / "keys", sources=Sources(outside, outside)), bytes(range(145))
     for key, signed, is_good in [(SIGNING, body, True), (SIGNING, body[::-1], False), (VRF, body, False)]:
-        said = {"signature": SigningKey(key).sign(signed).signature.hex()}
-        check(is_good, lambda: keys.sign(body), bytes.fromhex(said["signature"]))
+        printed = {"signature": SigningKey(key).sign(signed).signature.hex()}
+        check(is_good, lambda: keys.sign(body), bytes.fromhex(printed["signature"]))
     for key, name, is_good in [(VRF, "bob", False), (SIGNING, "alice", False), (VRF, "alice", True)]:
         proof = ecvrf.prove(key, name.encode())
-        said = {"proof": proof.hex()}
+        printed = {"proof": proof.hex()}
         check(is_good, lambda: keys.proof("alice"), proof)
         if is_good:
             assert keys.index("alice") == ecvrf.output(proof)[:32]
@@ -256,7 +256,7 @@ def signer(packages: None, tmp_path: Path, request: pytest.FixtureRequest) -> It
     made.end()
 
 
-def asked(path: Path, line: str) -> str:
+def requested(path: Path, line: str) -> str:
     """What a process replies to a line."""
     with socket.socket(socket.AF_UNIX) as connection:
         connection.settimeout(10)
@@ -272,7 +272,7 @@ def test_examples(signer: Signer) -> None:
     pairs = [it for it in zip(lines[::2], lines[1::2]) if signer.path.name.startswith("python") or "sign" in it[0]]
     assert len(pairs) in (2, 4) and '"cmd":"sign"' in lines[2]
     for line, reply in pairs:
-        assert json.loads(asked(signer.path, line)) == json.loads(reply)
+        assert json.loads(requested(signer.path, line)) == json.loads(reply)
     wrong = [
         "",
         "[]",
@@ -283,7 +283,7 @@ def test_examples(signer: Signer) -> None:
         '{"cmd":7}',
     ]
     for line in [*wrong, '{"cmd":"sign","body":"%s"}' % ("00" * 146)]:
-        assert list(json.loads(asked(signer.path, line))) == ["error"], line
+        assert list(json.loads(requested(signer.path, line))) == ["error"], line
     assert signer.path.stat().st_mode & 0o077 == 0
 
 
@@ -296,13 +296,13 @@ class Between:
 
     def reply(self, line: bytes) -> Optional[bytes]:
         try:
-            whole = asked(self.signer, line.decode().rstrip("\n")).encode() + b"\n"
+            whole = requested(self.signer, line.decode().rstrip("\n")).encode() + b"\n"
         except OSError:
             return b""
         other = json.loads(line)
         if self.how == "another body" and "body" in other:
             other["body"] = other["body"][:-2] + ("00" if other["body"][-2:] != "00" else "01")
-            return asked(self.signer, json.dumps(other)).encode() + b"\n"
+            return requested(self.signer, json.dumps(other)).encode() + b"\n"
         return {"cut": whole[:70], "garbage": b"\x80 {}\n", "nothing": b"", "silence": None, "twice": whole * 2}.get(
             self.how, whole
         )
@@ -468,8 +468,8 @@ def test_make(packages: None, program: str, tmp_path: Path) -> None:
     words += ["--origin", "keys.example.com", "--program", program]
     listener = Listener(tmp_path / "wrong", lambda _: b'{"key":"%s"}\n' % (b"00" * 32))
     for option in ("--signer", "--prover"):
-        for socket_path, said in [(tmp_path / "none", "Start it"), (tmp_path / "wrong", "no key of its scheme")]:
+        for socket_path, printed in [(tmp_path / "none", "Start it"), (tmp_path / "wrong", "no key of its scheme")]:
             ran = subprocess.run([PYTHON, str(HOME / "serve"), *words, option, str(socket_path)], capture_output=True, text=True)
-            assert ran.returncode == 1 and said in ran.stderr, ran.stderr
+            assert ran.returncode == 1 and printed in ran.stderr, ran.stderr
             assert not [it for it in ("keys", "log", "guard") if (tmp_path / it).exists()]
     listener.close()

@@ -102,12 +102,12 @@ class Year:
         for it in (self.users, self.machine):
             it.end()
 
-    def make(self, kept: int) -> None:
+    def make(self, saved: int) -> None:
         """Makes the directory, three auditors, and two users."""
         self.do("Install")
         # All that happens in an hour happens in some milliseconds, at one address.
         self.machine.do("sed -i 's/$/ --rate 1000000/' /etc/coniks/options")
-        self.do("Make the directory", given={"--kept 7776000": f"--kept {kept}"})
+        self.do("Make the directory", given={"--kept 7776000": f"--kept {saved}"})
         self.do("Make the directory", 1)
         self.token = self.do("Tokens", given={"alice\\n": "*\\n"}).strip()
         self.machine.do(f"install -m 0644 /etc/coniks/keys/policy {SHARED}")
@@ -145,7 +145,7 @@ class Year:
     def user(self, words: str, status: int = 0) -> str:
         """What a command prints to a user, with this status."""
         ran = self.users.run(f"export HOME=/home/client; cd /home/client; {words}", "client")
-        assert ran.returncode == status, f"{words}: {ran.returncode}\n{ran.stdout}{ran.stderr}{self.machine.said()}"
+        assert ran.returncode == status, f"{words}: {ran.returncode}\n{ran.stdout}{ran.stderr}{self.machine.printed()}"
         return ran.stdout
 
     def ask(self, method: str, target: str, body: Optional[bytes] = None, **headers: str) -> tuple[int, bytes]:
@@ -240,18 +240,18 @@ class Year:
         self.hours(2, names=1)
         self.machine.do("rm -rf /root/damaged")
         self.do("Back up and restore", 2)
-        until(lambda: "LogBehind" in self.machine.said())
+        until(lambda: "LogBehind" in self.machine.printed())
         self.machine.do("cp /root/damaged/names.log* /root/backup/")
         self.do("Back up and restore", 2)
         self.wait()
 
     def lose_guard(self) -> None:
-        """The disk of the guard is lost. Lookups go on, and what is asked for meanwhile waits until another record begins."""
+        """The disk of the guard is lost. Lookups go on, and what is requested meanwhile waits until another record begins."""
         self.machine.do(f"{KILL}; rm /var/lib/coniks-guard/*; systemctl start coniks-directory")
         epoch = until(self.epoch)
         assert self.register()
         self.clock.add(1)
-        until(lambda: "serve adopt" in self.machine.said())
+        until(lambda: "serve adopt" in self.machine.printed())
         assert self.epoch() == epoch and self.got("/v1/lookup?name=name0")
         seen = int(self.users.do(block("A lost record of the guard")))
         self.do("A lost record of the guard", 1, {"latest=..": f"latest={max(seen, epoch)}"})
@@ -269,10 +269,10 @@ class Year:
 
     def compact(self) -> None:
         """Old epochs are forgotten, and then old lines are dropped."""
-        said = self.machine.root / "var/log/coniks-directory"
-        before = said.read_text().count('"event": "compact"')
+        printed = self.machine.root / "var/log/coniks-directory"
+        before = printed.read_text().count('"event": "compact"')
         self.do("Compact")
-        until(lambda: said.read_text().count('"event": "compact"') > before)
+        until(lambda: printed.read_text().count('"event": "compact"') > before)
         self.do("Back up and restore")
         self.do("Drop log lines")
         self.wait()
