@@ -28,11 +28,11 @@ def counts_of(text: str, status: int) -> list[int]:
     if found := LAST.fullmatch(line):
         counts = [int(it or 0) for it in found.groups()]
     elif PYTEST.fullmatch(line):
-        said = {word: int(count) for count, word in PART.findall(line)}
-        counts = [said.get("passed", 0), said.get("failed", 0) + said.get("error", 0), said.get("skipped", 0)]
+        printed = {word: int(count) for count, word in PART.findall(line)}
+        counts = [printed.get("passed", 0), printed.get("failed", 0) + printed.get("error", 0), printed.get("skipped", 0)]
     else:
-        said = {word: int(count) for word, count in NODE.findall(text)}
-        counts = [said["pass"], said["fail"] + said["cancelled"], said["skipped"]] if len(said) == 4 else [0, 1, 0]
+        printed = {word: int(count) for word, count in NODE.findall(text)}
+        counts = [printed["pass"], printed["fail"] + printed["cancelled"], printed["skipped"]] if len(printed) == 4 else [0, 1, 0]
     return [counts[0], max(counts[1], int(status != 0)), counts[2]]
 
 

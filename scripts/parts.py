@@ -351,9 +351,9 @@ LANGUAGES = [
     ),
     Part(
         "the core of a client in C",
-        ["include/coniks_core.h", "embed/c/core_stack.c", "embed/c/painted.h", *CORE_TESTS, *OF_CLIENTS],
+        ["include/coniks_core.h", "embed/c/core_stack.c", "embed/c/painted.h", *package("_core"), *CORE_TESTS, *OF_CLIENTS],
         [f"embed/tests/{it}.py" for it in ("test_core", "test_core_quorum", "test_core_state_bytes", "test_core_states")],
-        ["--alterations", "40"],
+        ["--alterations", "100"],
         library=True,
     ),
     Part(
@@ -449,7 +449,7 @@ PAGES = [
         "proofs and signatures in JavaScript",
         ["web/src/curve.js", "web/src/ecvrf.js", "web/src/schemes.js", "web/src/bytes.js", "web/ecvrf_answers.mjs"],
         ["web/page_tests/test_ecvrf.py"],
-        ["--points", "50"],
+        ["--points", "100"],
     ),
     Part(
         "the form of names",

@@ -146,7 +146,7 @@ def packages(tools: Sequence[str]) -> list[str]:
     return [package for it in tools for package in TOOLS[it][1].split()]
 
 
-def told(tools: Sequence[str]) -> list[str]:
+def reported(tools: Sequence[str]) -> list[str]:
     """The lines with the missing tools, what is skipped for each, and how to install them; none if nothing is missing."""
     if not tools:
         return []
@@ -172,7 +172,7 @@ def main(words: list[str]) -> int:
         if packages(tools) and os.geteuid() == 0 and has_program("apt-get"):
             install(tools)
         return 0
-    print(*told(tools), sep="\n", end="\n" if tools else "")
+    print(*reported(tools), sep="\n", end="\n" if tools else "")
     return 0
 
 

@@ -62,6 +62,21 @@ def test_wrong(gate: Any, what: str) -> None:
     assert tally.wrong == [f"a job: {lines[it]}" for it in wanted]
 
 
+@pytest.mark.parametrize("failed", ["rt: FAILED: coniks_c/longer_entry_taken.edit", ""])
+def test_wrong_of_ci(gate: Any, monkeypatch: pytest.MonkeyPatch, tmp_path: Path, failed: str) -> None:
+    """What `rt ci` says that failed is named at the end too, and nothing if nothing did."""
+    printed = f"{failed or 'rt: ok'}\n3 passed, {int(bool(failed))} failed\n"
+    monkeypatch.setattr(gate, "TOP", tmp_path)
+    monkeypatch.setattr(gate, "built", lambda word, file: True)
+    monkeypatch.setattr(gate, "shown", lambda words, *beside: (printed, int(bool(failed))))
+    monkeypatch.setattr(gate.minutes, "note", lambda times: None)
+    monkeypatch.setenv("CONIKS_CPU", gate.OLDER)
+    tally = gate.Tally()
+    gate.run_ci(tally)
+    assert [tally.passed, tally.failed] == [3, int(bool(failed))]
+    assert tally.wrong == ([f"rt ci: {failed}"] if failed else [])
+
+
 def built(gate: Any, monkeypatch: pytest.MonkeyPatch, room: Path, here: str, fails: str = "none") -> tuple[list[str], str]:
     """Has the gate build on a machine, where a build with these words fails. What ran in the end, and the counts."""
     ran: list[str] = []
@@ -130,8 +145,8 @@ def test_without_tools(gate: Any, monkeypatch: pytest.MonkeyPatch) -> None:
 
 
 def test_processor(gate: Any, monkeypatch: pytest.MonkeyPatch) -> None:
-    """What is asked for doesn't change what the machine has."""
+    """What is requested doesn't change what the machine has."""
     had = gate.processor()
-    for asked in ["x86-64-v2", "x86-64-v3", "another"]:
-        monkeypatch.setenv("CONIKS_CPU", asked)
+    for requested in ["x86-64-v2", "x86-64-v3", "another"]:
+        monkeypatch.setenv("CONIKS_CPU", requested)
         assert gate.processor() == had in ["x86-64-v2", "x86-64-v3"]

@@ -141,9 +141,9 @@ def prefix(tmp_path: Path) -> Path:
 def test_usage(room: Path, words: list[str]) -> None:
     """Anything but one folder is refused in one line, with status 2. Nothing can be installed, whatever is taken as a folder."""
     outdate(room, "keydir")
-    said = "install: expected a folder: scripts/install PREFIX\n"
+    printed = "install: expected a folder: scripts/install PREFIX\n"
     ran = install(room, *words)
-    assert (ran.returncode, ran.stdout, ran.stderr) == (2, "", said)
+    assert (ran.returncode, ran.stdout, ran.stderr) == (2, "", printed)
 
 
 def check_moved(what: str, prefix: Path) -> None:
@@ -165,8 +165,8 @@ def test_first(room: Path, prefix: Path) -> None:
     prefix = prefix / "below"
     ran = install(room, prefix)
     what = f"keydir and provider for {processor()}, their manual pages, and coniks for Python"
-    said = f"{prefix}: {what} without libconiks.so, which embed/build makes\n"
-    assert (ran.returncode, ran.stdout, ran.stderr) == (0, said, ""), f"install: {ran}"
+    printed = f"{prefix}: {what} without libconiks.so, which embed/build makes\n"
+    assert (ran.returncode, ran.stdout, ran.stderr) == (0, printed, ""), f"install: {ran}"
     assert files(prefix) == wanted(), f"its files: {files(prefix)}"
     check_moved("a moved folder", prefix)
 
@@ -226,16 +226,16 @@ def test_unproved(room: Path, prefix: Path) -> None:
     assert install(room, prefix, CONIKS_UNPROVED="1").returncode == 0, "the proved programs are there"
     (room / "crates/provider/out/provider").unlink()
     ran = install(room, prefix.parent / "other", CONIKS_UNPROVED="1")
-    said = "install: provider isn't proved, and CONIKS_UNPROVED is 1: unset it, and the proofs begin\n"
-    assert (ran.returncode, ran.stdout, ran.stderr) == (1, "", said), f"install: {ran}"
+    printed = "install: provider isn't proved, and CONIKS_UNPROVED is 1: unset it, and the proofs begin\n"
+    assert (ran.returncode, ran.stdout, ran.stderr) == (1, "", printed), f"install: {ran}"
     assert not (prefix.parent / "other").exists() and not (room / "out/unproved").exists(), "nothing is made"
 
 
 def test_processor(room: Path, prefix: Path) -> None:
     """CONIKS_CPU names what the programs are built for, and another value than two installs nothing."""
     ran = install(room, prefix, CONIKS_CPU="x86-64-v4")
-    said = 'processor: CONIKS_CPU is "x86-64-v4", expected x86-64-v2 or x86-64-v3\n'
-    assert (ran.returncode, ran.stdout, ran.stderr, prefix.exists()) == (2, "", said, False)
+    printed = 'processor: CONIKS_CPU is "x86-64-v4", expected x86-64-v2 or x86-64-v3\n'
+    assert (ran.returncode, ran.stdout, ran.stderr, prefix.exists()) == (2, "", printed, False)
     for cpu in ["x86-64-v2", "x86-64-v3"]:
         # As if nothing were built, for whichever processor.
         shutil.rmtree(room / "out/built")

@@ -84,7 +84,7 @@ CHANGES = {
     "embed/python/src/coniks/_memory.py": "the client in Python",
     "embed/go/policy.go": "the package in Go",
     "embed/go/client/watch.go": "cases of the client in Go",
-    "embed/rust/src/client/memory.rs": "cases of the client in Rust",
+    "embed/rust/src/client_core.rs": "cases of the client in Rust",
     "embed/java/src/main/java/org/coniks/Client.java": "cases of the client in Java",
     "web/src/watch.js": "cases of the client in JavaScript",
     "web/src/page.js": "the page: results",
@@ -160,18 +160,18 @@ def test_jobs(capfd: pytest.CaptureFixture[str]) -> None:
         job("eighth", "echo 0 passed, 1 failed"),
     ]
     lacking = quick.run_jobs(jobs, tally)
-    said = capfd.readouterr().out
+    printed = capfd.readouterr().out
     assert tally.line() == "5 passed, 2 failed, 1 skipped"
     assert sorted(lacking) == [
         "fifth, ended after 1 s: cd . && sh -c exec sleep 60",
         "fourth, since third failed",
         "third, since second failed",
     ]
-    assert "second: from second\n" in said and "never" not in said and "first: ok, 0 s\n" in said
+    assert "second: from second\n" in printed and "never" not in printed and "first: ok, 0 s\n" in printed
 
 
 def test_left_out() -> None:
-    """What is left out is told with the command that runs it."""
+    """What is left out is reported with the command that runs it."""
     guard = next(it for it in parts.PARTS if it.name == "the guard")
     lines = quick.left_out([guard], ["coniks_tree"], ["coniks_c"])
     assert lines[0] == f"all of the guard: scripts/pytest {' '.join(guard.tests)}"

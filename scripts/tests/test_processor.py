@@ -59,7 +59,7 @@ def test_no_flags(tmp_path: Path) -> None:
 
 @pytest.mark.parametrize("cpu", ["x86-64-v2", "x86-64-v3"])
 @pytest.mark.parametrize("flags", ["fpu sse2", HASWELL])
-def test_asked_for(tmp_path: Path, flags: str, cpu: str) -> None:
+def test_requested(tmp_path: Path, flags: str, cpu: str) -> None:
     (tmp_path / "cpuinfo").write_text(f"flags\t\t: {flags}\n")
     ran = processor(tmp_path, cpu)
     assert (ran.returncode, ran.stdout, ran.stderr) == (0, f"{cpu}\n", "")
@@ -69,5 +69,5 @@ def test_asked_for(tmp_path: Path, flags: str, cpu: str) -> None:
 def test_refused(tmp_path: Path, cpu: str) -> None:
     (tmp_path / "cpuinfo").write_text(f"flags\t\t: {HASWELL}\n")
     ran = processor(tmp_path, cpu)
-    said = f'processor: CONIKS_CPU is "{cpu}", expected x86-64-v2 or x86-64-v3\n'
-    assert (ran.returncode, ran.stdout, ran.stderr) == (2, "", said)
+    shown = f'processor: CONIKS_CPU is "{cpu}", expected x86-64-v2 or x86-64-v3\n'
+    assert (ran.returncode, ran.stdout, ran.stderr) == (2, "", shown)

@@ -3,9 +3,9 @@
 from __future__ import annotations
 
 import re
-import runpy
 import shutil
 import subprocess
+import tomllib
 from functools import cache
 from pathlib import Path
 
@@ -13,7 +13,7 @@ import pytest
 
 TOP = Path(__file__).resolve().parents[2]
 # The files in which single numbers are written.
-IN_PLACE = runpy.run_path(str(TOP / "scripts/tables"))["IN_PLACE"]
+IN_PLACE = tomllib.loads((TOP / "formats.toml").read_text("utf-8"))["in_place"]
 NOTED = re.compile(r"formats\.toml: (?!end)\w+|[Gg]enerated from formats\.toml")
 
 

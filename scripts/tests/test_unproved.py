@@ -48,8 +48,8 @@ def test_archive(tmp_path: Path) -> None:
     (tmp_path / "program.c").write_text(PROGRAM.replace("CONIKS_STATUS", "CONIKS_E_TOO_DEEP"))
     files = [str(it) for it in (tmp_path / "program.c", archive)]
     subprocess.run([tools.CC, f"-I{TOP}/include", *files, "-o", str(tmp_path / "program")], check=True)
-    said = subprocess.run([tmp_path / "program"], capture_output=True, text=True, check=True).stdout
-    assert said == f"10000 {len(text)} {text}"
+    printed = subprocess.run([tmp_path / "program"], capture_output=True, text=True, check=True).stdout
+    assert printed == f"10000 {len(text)} {text}"
 
 
 def test_module() -> None:
@@ -60,5 +60,5 @@ def test_module() -> None:
         f'WebAssembly.Module.exports(new WebAssembly.Module(require("fs").readFileSync("{OUT}/coniks.wasm"))).map((it) => it.name)'
     )
     words = ["node", "--experimental-wasm-memory64", "-e", f"console.log(JSON.stringify({text}))"]
-    said = subprocess.run(words, capture_output=True, text=True)
-    assert {*NAMES} <= {*json.loads(said.stdout)}, said
+    printed = subprocess.run(words, capture_output=True, text=True)
+    assert {*NAMES} <= {*json.loads(printed.stdout)}, printed
