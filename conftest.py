@@ -11,7 +11,7 @@ import pytest
 import tools
 
 TOP = Path(__file__).resolve().parent
-SAID: pytest.StashKey[list[str]] = pytest.StashKey()
+PRINTED: pytest.StashKey[list[str]] = pytest.StashKey()
 Say = Callable[[str], None]
 
 with suppress(ImportError):
@@ -64,7 +64,7 @@ def pytest_addoption(parser: pytest.Parser) -> None:
 
 
 def pytest_configure(config: pytest.Config) -> None:
-    config.stash[SAID] = list[str]()
+    config.stash[PRINTED] = list[str]()
 
 
 def pytest_collection_modifyitems(items: list[pytest.Item]) -> None:
@@ -74,14 +74,14 @@ def pytest_collection_modifyitems(items: list[pytest.Item]) -> None:
 
 def pytest_terminal_summary(terminalreporter: Any, config: pytest.Config) -> None:
     """Prints what the tests have counted and measured."""
-    for line in config.stash[SAID]:
+    for line in config.stash[PRINTED]:
         terminalreporter.write_line(line)
 
 
 @pytest.fixture
 def say(request: pytest.FixtureRequest) -> Say:
     """Adds a line to the end of the run."""
-    return request.config.stash[SAID].append
+    return request.config.stash[PRINTED].append
 
 
 def built(config: pytest.Config, name: str) -> str:
