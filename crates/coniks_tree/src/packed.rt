@@ -1,6 +1,6 @@
 //! Nodes as the table has them.
 
-ghost use Rattle.std.specs.Prelude.{◌≡◌, ◌↔◌, ◌<◌, ◌≤◌, ◌+◌, ◌^◌, true};
+ghost use Rattle.std.specs.Prelude.{◌≡◌, ◌↔◌, ◌<◌, ◌≤◌, ◌+◌, ◌^◌, length, true};
 ghost use Rattle.coniks_tree.specs.Packed.{greatest_child};
 ghost use Rattle.coniks_tree.specs.Table.{hash_of_node};
 
@@ -11,11 +11,11 @@ use std::marker::Model;
 /// The most nodes of a table, whose numbers have 48 bits.
 const MAX_NODES: usize = 0x1_0000_0000_0000;
 
-/// Returns whether a table of this many nodes has numbers for further ones.
-pub(crate) fn has_numbers(nodes: usize, more: usize) -> bool
-    ensures { result ≡ true ↔ nodes + more ≤ 2 ^ 48 }
+/// Returns whether a table of these nodes has numbers for further ones.
+pub(crate) fn has_numbers(nodes: &[PackedNode], more: usize) -> bool
+    ensures { result ≡ true ↔ length nodes.now + more ≤ 2 ^ 48 }
 {
-    nodes.saturating_add(more) <= MAX_NODES
+    nodes.len().saturating_add(more) <= MAX_NODES
 }
 
 /// The kind of a node.

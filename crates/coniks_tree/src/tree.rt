@@ -352,7 +352,7 @@ impl Tree {
         ensures room_records { OnOk result (length self.new.records + records ≤ self.new.record_room) }
     {
         let count = new_nodes(part);
-        if !has_numbers(self.nodes.len(), count) {
+        if !has_numbers(&self.nodes, count) {
             return Err(OutOfMemory);
         }
         self.nodes.try_reserve(count)?;

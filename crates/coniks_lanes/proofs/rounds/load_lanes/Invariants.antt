@@ -5,5 +5,5 @@ use Rattle.coniks_lanes.proofs.rounds.load_lanes.Given as goal
 
 abbrev pub invariant-lanes : goal.invariant-lanes
 invariant-lanes g l = (length l.list ≡ 8)
-    × ((k : ℕ) → k < l.j → slice_index l.list k ≡ word_at (slice_index_or (map (λ m. block l.number m.now) l.messages) k []) l.i)
+    × ((k : ℕ) → k < l.j → slice_index l.list k ≡ word_at (slice_index_or (map (λ m. block l.at.block m.now) l.messages) k []) l.at.byte)
     × ((k : ℕ) → k < l.j → length (slice_index_or (map (λ m. padded_message m.now) l.messages) k []) ≡ 128)
