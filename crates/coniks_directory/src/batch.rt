@@ -7,8 +7,8 @@ ghost use Rattle.coniks_proof.specs.Registry.{Registry};
 ghost use Rattle.coniks_directory.specs.Batches.{IsBatchFault};
 ghost use Rattle.coniks_directory.specs.declared.batch.BatchFault.TheVariants.{BatchTooLong};
 
-use coniks_proof::{Bytes, MAX_KEY, MAX_NAME, MAX_OPERATIONS, Opening};
-use coniks_threads::{MAX_DEPTH, MAX_WORKERS, Parallelism, ParallelismFault};
+use coniks_proof::{Bytes, MAX_KEY, MAX_NAME, MAX_OPERATIONS, Nonce, Opening};
+use coniks_threads::{MAX_DEPTH, MAX_WORKERS, Parallelism, ParallelismFault, Wanted};
 use std::alloc::{AllocError, Global};
 use thiserror::Error;
 
@@ -43,6 +43,16 @@ impl Op {
             opening: self.opening,
         })
     }
+}
+
+/// A batch whose operations are handed over: the number of its epoch, the new nonce, if there is one, and the operations.
+#[derive(Drop)]
+pub struct EpochBatch {
+    pub epoch: u64,
+    /// The nonce under which the epoch's tree is rehashed, if any.
+    pub nonce: Option<Nonce>,
+    /// At most `MAX_OPERATIONS` operations.
+    pub ops: Vec<Op>,
 }
 
 /// Copies operations.
@@ -100,13 +110,13 @@ pub enum BatchFault {
 /// # Errors
 ///
 /// `Workers` or `Depth`, the first that applies.
-pub(crate) fn parallelism_of(depth: usize, workers: usize) -> Result<Parallelism, BatchFault>
-    ensures workers { IfOk result (λ parallelism. parallelism.workers ≡ workers) }
-    ensures depth { IfOk result (λ parallelism. parallelism.depth ≡ depth) }
+pub(crate) fn parallelism_of(wanted: Wanted) -> Result<Parallelism, BatchFault>
+    ensures workers { IfOk result (λ parallelism. parallelism.workers ≡ wanted.workers) }
+    ensures depth { IfOk result (λ parallelism. parallelism.depth ≡ wanted.depth) }
     ensures refused { IfErr result (λ fault. (index_of : Octets → Octets) (registry : Registry) (ops : List Operation)
-        → IsBatchFault index_of registry ops depth workers fault) }
+        → IsBatchFault index_of registry ops wanted.depth wanted.workers fault) }
 {
-    match Parallelism::new(workers, depth) {
+    match Parallelism::new(wanted) {
         Ok(parallelism) => Ok(parallelism),
         Err(ParallelismFault::Workers) => Err(BatchFault::Workers),
         Err(ParallelismFault::Depth) => Err(BatchFault::Depth),

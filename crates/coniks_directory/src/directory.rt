@@ -13,19 +13,20 @@ ghost use Rattle.coniks_directory.specs.Updates.{HasRefused, IsUpdate, IsUpdateO
 mod restoring;
 mod supplying;
 
-use crate::batch::{BatchFault, Op, check_length, copies_of, parallelism_of};
+use crate::batch::{BatchFault, EpochBatch, Op, check_length, copies_of, parallelism_of};
 use crate::bindings::{BindingsFault, IndexedBinding, bindings_of};
+use crate::build::Build;
 use crate::conflicts::{holder_at, is_of};
-use crate::install::{enter, head_of, make_body, may_install, put_head, signed};
+use crate::install::{SignedEntry, enter, head_of, make_body, may_install, put_head, signed};
 use crate::lengths::is_length;
 use crate::lookup::{LookupFault, SignedProof};
-use crate::preparing::{Build, Origin, update_on};
+use crate::preparing::{Origin, update_on};
 use crate::source::IndexSource;
 use crate::state::DirectoryState;
 use crate::update::{CommitFault, InstallFault, Prepared, in_install, in_prepare};
 use coniks_chain::{Body, Entry, Sign, link};
 use coniks_proof::{Digest, Hash32, Index, MAX_NAME, Nonce, Proof};
-use coniks_threads::{Board, Gate, Parallelism, Publisher};
+use coniks_threads::{Board, Gate, Publisher, Wanted};
 pub use restoring::Restoring;
 use std::alloc::Global;
 use std::marker::Model;
@@ -91,6 +92,13 @@ impl<H: Hash32, X: IndexSource> Directory<H, X> {
         ensures names { AllHaveOwnIndices (X.index_of self.now.index) (history self.now) }
     {
         &self.stored.chain
+    }
+
+    /// Proves that the chain is that of the epochs.
+    pub fn known(&self)
+        ensures { IsChainOf (H.digest_of self.now.hash) (X.index_of self.now.index) self.now.state.policy self.now.state.before (history self.now) self.now.state.chain }
+    {
+        let _chain = self.chain();
     }
 
     /// Returns the number of the latest epoch, or 0 before the first.
@@ -238,9 +246,8 @@ impl<H: Hash32, X: IndexSource> Directory<H, X> {
     pub fn is_registered_after(&self, update: &Prepared, name: &[u8]) -> bool
         ensures { result ≡ has_name (registry_after self.now.state update.now) name.now }
     {
-        // Read for the contract alone.
-        let _ = &self.stored;
-        self.is_registered(name) || update.binds(name)
+        let index = self.source.index(name);
+        self.is_registered_at(&index, name) || update.binds(name)
     }
 
     /// Returns the body that an install of the update under the number `t` asks the signer to sign.
@@ -305,14 +312,19 @@ impl<H: Hash32, X: IndexSource> Directory<H, X> {
         ensures unsigned { IfErr result (λ r. HasRefused S.made_of S.refused_of S.last_of signer.old signer.new (refusals r.0)) }
         ensures unrequested { IfErr result (λ r. LeavesSigner S.signs (update_body H.digest_of X.index_of self.old update t) signer.old signer.new r.0) }
     {
-        let (published, capacity) = (publisher.published(), board.capacity());
-        if let Err(fault) = may_install(&self.stored, update.base, t, published, capacity) {
+        if let Err(fault) = may_install(&self.stored, update.base, t, publisher, board) {
             return Err((fault, update));
         }
         match signed(&mut self.stored, &self.h, &update, t, signer) {
             Ok(entry) => {
                 let link = link(&self.h, &entry);
-                enter(&mut self.stored, &self.h, update, t, entry, link);
+                enter(
+                    &mut self.stored,
+                    &self.h,
+                    update,
+                    t,
+                    SignedEntry { entry, link },
+                );
                 put_head(publisher, board, head_of(&entry, link));
                 Ok(entry)
             }
@@ -360,7 +372,7 @@ impl<H: Hash32 + Sync, X: IndexSource> Directory<H, X> {
     {
         let build = Build {
             rt,
-            parallelism: parallelism_of(depth, workers)?,
+            parallelism: parallelism_of(Wanted { workers, depth })?,
             gate,
         };
         self.prepared_from(&build, None, ops)
@@ -390,7 +402,7 @@ impl<H: Hash32 + Sync, X: IndexSource> Directory<H, X> {
     {
         let build = Build {
             rt,
-            parallelism: parallelism_of(depth, workers)?,
+            parallelism: parallelism_of(Wanted { workers, depth })?,
             gate,
         };
         self.prepared_from(&build, Some(nonce), ops)
@@ -493,12 +505,8 @@ impl<H: Hash32 + Sync, X: IndexSource> Directory<H, X> {
     #[tactic(auto, using(crate::proofs::CommitLemmas::commits))]
     pub fn commit_owned<S: Sign, G: Gate + Sync, R: Threads + Sync>(
         &mut self,
-        rt: &R,
-        nonce: Option<Nonce>,
-        ops: Vec<Op>,
-        parallelism: Parallelism,
-        gate: &G,
-        t: u64,
+        build: &Build<'_, G, R>,
+        batch: EpochBatch,
         signer: &mut S,
         publisher: &mut Publisher,
         board: &Board,
@@ -506,26 +514,23 @@ impl<H: Hash32 + Sync, X: IndexSource> Directory<H, X> {
         requires { IsReady H.digest_of S.made_of S.refused_of self.old signer.old publisher.old board.now }
 
         // An entry.
-        ensures installed { IfOk result (AddsBatch H.digest_of X.index_of self.old self.new nonce ops.items t) }
+        ensures installed { IfOk result (AddsBatch H.digest_of X.index_of self.old self.new batch.nonce batch.ops.items batch.epoch) }
         ensures signed { IfOk result (HasSigned S.made_of S.refused_of S.last_of S.signs S.verdict_of signer.old signer.new) }
 
         // An entry or an error.
-        ensures outcome { IsCommitResult X.index_of self.old ops.items parallelism.depth parallelism.workers t (length publisher.old.heads) board.now.capacity result }
+        ensures outcome { IsCommitResult X.index_of self.old batch.ops.items build.now.parallelism.depth build.now.parallelism.workers batch.epoch
+            (length publisher.old.heads) board.now.capacity result }
         ensures same { IsAlike self.new self.old }
         ensures retained { Keeps H.digest_of S.verdict_of self.old self.new signer.old signer.new publisher.old publisher.new }
 
         // An error.
         ensures unchanged { OnErr result ((self.new ≡ self.old) × (publisher.new ≡ publisher.old)) }
         ensures unsigned { IfErr result (λ fault. HasRefused S.made_of S.refused_of S.last_of signer.old signer.new (commit_refusals fault)) }
-        ensures unrequested { IfErr result (CommitLeavesSigner S.signs (batch_body H.digest_of X.index_of self.old nonce ops.items t) signer.old signer.new) }
+        ensures unrequested { IfErr result (CommitLeavesSigner S.signs (batch_body H.digest_of X.index_of self.old batch.nonce batch.ops.items batch.epoch) signer.old signer.new) }
     {
-        let build = Build {
-            rt,
-            parallelism,
-            gate,
-        };
-        let update = in_prepare(self.prepared(&build, nonce, ops))?;
-        match self.install(update, t, signer, publisher, board) {
+        let EpochBatch { epoch, nonce, ops } = batch;
+        let update = in_prepare(self.prepared(build, nonce, ops))?;
+        match self.install(update, epoch, signer, publisher, board) {
             Ok(entry) => Ok(entry),
             Err((fault, _)) => Err(in_install(fault)),
         }

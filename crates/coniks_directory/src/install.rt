@@ -37,24 +37,24 @@ pub(crate) fn check_next(stored: &DirectoryState, base: usize, t: u64) -> Result
     Ok(())
 }
 
-/// Checks that an update can be installed under a number.
+/// Checks that an update can be installed under a number, with its head on a board.
 ///
-/// There were `base` epochs when it was prepared, and `published` heads are on a board of this capacity.
+/// There were `base` epochs when it was prepared.
 pub(crate) fn may_install(
     stored: &DirectoryState,
     base: usize,
     t: u64,
-    published: usize,
-    capacity: usize,
+    publisher: &Publisher,
+    board: &Board,
 ) -> Result<(), InstallFault>
-    ensures ok { OnOk result (MayInstall (state_of stored.now) base t published capacity) }
-    ensures refused { IfErr result (IsRefused (state_of stored.now) base t published capacity) }
+    ensures ok { OnOk result (MayInstall (state_of stored.now) base t (length publisher.now.heads) board.now.capacity) }
+    ensures refused { IfErr result (IsRefused (state_of stored.now) base t (length publisher.now.heads) board.now.capacity) }
     ensures unsigned { IfErr result (λ fault. refusals fault ≡ 0) }
 {
     if let Err(fault) = check_next(stored, base, t) {
         return Err(fault);
     }
-    if published == capacity {
+    if publisher.published() == board.capacity() {
         return Err(InstallFault::BoardFull);
     }
     Ok(())
@@ -168,24 +168,30 @@ fn put_entry(chain: &mut Vec<Entry>, entry: Entry)
     let _ = chain.push(entry);
 }
 
+/// A signed entry, and its link.
+#[derive(Drop)]
+pub(crate) struct SignedEntry {
+    pub(crate) entry: Entry,
+    pub(crate) link: Digest,
+}
+
 /// Attaches an update, for which there is room, adds its epoch and its entry, and stores the entry's link.
 pub(crate) fn enter<H: Hash32>(
     stored: &mut DirectoryState,
     h: &H,
     update: Prepared,
     t: u64,
-    entry: Entry,
-    link: Digest,
+    signed: SignedEntry,
 )
-    requires link { link.0 ≡ H.digest_of h.now (link_preimage entry) }
+    requires link { signed.link.0 ≡ H.digest_of h.now (link_preimage signed.entry) }
     requires fits { Fits (length stored.old.tree.nodes) 0 update.part }
     requires placed { Placed (stored.old.tree.records ++ update.records.items) update.part }
     requires room { HasRoom stored.old update }
     ensures count { length stored.new.tree.nodes ≡ length stored.old.tree.nodes + nodes_added update }
-    ensures last { stored.new.chain.items ≡ stored.old.chain.items ++ entry ∷ [] }
+    ensures last { stored.new.chain.items ≡ stored.old.chain.items ++ signed.entry ∷ [] }
     ensures linked { IsLinked (H.digest_of h.now) stored.new }
-    ensures attached { (s : State) → state_of stored.old ≡ s → IsAttached (H.digest_of h.now) s (state_of stored.new) update t entry }
-    ensures entered { (s : State) → state_of stored.old ≡ s → IsEntered (H.digest_of h.now) s (state_of stored.new) update t entry }
+    ensures attached { (s : State) → state_of stored.old ≡ s → IsAttached (H.digest_of h.now) s (state_of stored.new) update t signed.entry }
+    ensures entered { (s : State) → state_of stored.old ≡ s → IsEntered (H.digest_of h.now) s (state_of stored.new) update t signed.entry }
 {
     let Prepared {
         version,
@@ -204,6 +210,6 @@ pub(crate) fn enter<H: Hash32>(
         count,
     };
     put_epoch(&mut stored.epochs, epoch);
-    put_entry(&mut stored.chain, entry);
-    stored.link = link;
+    put_entry(&mut stored.chain, signed.entry);
+    stored.link = signed.link;
 }

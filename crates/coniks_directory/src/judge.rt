@@ -94,7 +94,8 @@ pub(crate) fn judge_all<X: IndexSource>(
     Ok(())
 }
 
-/// Adds the records of a batch's operations to those of earlier ones, as `judge_all` does, and copies the operations.
+/// Adds the records of a batch's operations to those of earlier ones, as `judge_all` does before the first epoch, and copies
+/// the operations.
 ///
 /// # Errors
 ///
@@ -103,30 +104,27 @@ pub(crate) fn judge_copies<X: IndexSource>(
     alloc: Global,
     source: &X,
     tree: &Tree,
-    root: Option<Root>,
     pending: &mut PendingRecords,
     ops: &[Op],
 ) -> Result<(), BatchFault>
-    requires { IfSome root (λ r. r.0 < length tree.now.nodes) }
     ensures pending { OnOk result ((hash : Octets → Octets) (bound : List Registered)
         → ArePendingRecords hash (X.index_of source.now) bound pending.old.records.items pending.old.numbers
         → ArePendingRecords hash (X.index_of source.now) (bound ++ map bound_by (operations ops.now)) pending.new.records.items pending.new.numbers) }
-    ensures faultless { OnOk result ((hash : Octets → Octets) (nonce : Octets) (registry : Registry) (bound : List Registered)
-        → ShowsLatest hash (X.index_of source.now) nonce (table_of tree.now) root registry
+    ensures faultless { OnOk result ((hash : Octets → Octets) (bound : List Registered)
         → ArePendingRecords hash (X.index_of source.now) bound pending.old.records.items pending.old.numbers
-        → fault_from (X.index_of source.now) registry bound 0 (operations ops.now) ≡ None) }
-    ensures fault { IfErr result (λ fault. (hash : Octets → Octets) (nonce : Octets) (registry : Registry) (bound : List Registered)
-        → ShowsLatest hash (X.index_of source.now) nonce (table_of tree.now) root registry
+        → fault_from (X.index_of source.now) [] bound 0 (operations ops.now) ≡ None) }
+    ensures fault { IfErr result (λ fault. (hash : Octets → Octets) (bound : List Registered)
         → ArePendingRecords hash (X.index_of source.now) bound pending.old.records.items pending.old.numbers
-        → IsJudgedFaultAfter (X.index_of source.now) registry bound (operations ops.now) fault) }
+        → IsJudgedFaultAfter (X.index_of source.now) [] bound (operations ops.now) fault) }
     ensures retained { OnErr result ((hash : Octets → Octets) (bound : List Registered)
         → ArePendingRecords hash (X.index_of source.now) bound pending.old.records.items pending.old.numbers
         → ArePendingRecords hash (X.index_of source.now) bound pending.new.records.items pending.new.numbers) }
 {
-    match copies_of(alloc, ops) {
-        Ok(copies) => judge_all(source, tree, root, pending, copies),
-        Err(_) => Err(BatchFault::OutOfMemory),
-    }
+    let Ok(copies) = copies_of(alloc, ops) else {
+        return Err(BatchFault::OutOfMemory);
+    };
+    judge_all(source, tree, None, pending, copies)?;
+    Ok(())
 }
 
 /// Returns the records of a batch's operations, after all are checked. They have no commitments yet.

@@ -50,7 +50,10 @@
 //!     ops,
 //!     indices,
 //! };
-//! let parallelism = Parallelism::new(2, 1)?;
+//! let parallelism = Parallelism::new(Wanted {
+//!     workers: 2,
+//!     depth: 1,
+//! })?;
 //! let update = directory.prepare_owned(rt, batch, parallelism, &Open)?;
 //!
 //! // The body is signed, here or elsewhere.
@@ -72,6 +75,7 @@
 
 pub mod batch;
 pub mod bindings;
+pub mod build;
 mod changes;
 mod commitments;
 mod conflicts;
@@ -95,8 +99,9 @@ pub mod supplied_batch;
 mod supplied_bindings;
 pub mod update;
 
-pub use batch::{BatchFault, Op, OpFault, OpKind};
+pub use batch::{BatchFault, EpochBatch, Op, OpFault, OpKind};
 pub use bindings::{BindingsFault, IndexedBinding};
+pub use build::Build;
 pub use directory::{Directory, Restoring};
 pub use linked::LinkedEntry;
 pub use lookup::{LookupAtFault, LookupFault, SignedProof};

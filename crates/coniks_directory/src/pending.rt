@@ -10,9 +10,9 @@ ghost use Rattle.coniks_directory.specs.Judged.{ArePendingRecords, AreCommitted,
 ghost use Rattle.coniks_directory.specs.State.{registered_of};
 
 use crate::batch::Op;
+use crate::build::Build;
 use crate::commitments::commit_apart;
 use crate::conflicts::is_of;
-use crate::preparing::Build;
 use coniks_proof::{Binding, Digest, Hash32, Index, MAX_KEY, MAX_NAME};
 use coniks_threads::Gate;
 use coniks_tree::Record;

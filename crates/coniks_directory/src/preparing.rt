@@ -15,6 +15,7 @@ ghost use Rattle.coniks_directory.specs.Judged.{ArePendingRecords, AreCommitted,
 ghost use Rattle.coniks_directory.specs.State.{Whole, history_of, state_of};
 
 use crate::batch::{BatchFault, Op};
+use crate::build::Build;
 use crate::changes::changes_of;
 use crate::growth::growth_of;
 use crate::judge::judged;
@@ -23,7 +24,7 @@ use crate::source::IndexSource;
 use crate::state::DirectoryState;
 use crate::update::Prepared;
 use coniks_proof::{Hash32, Nonce};
-use coniks_threads::{Gate, Parallelism};
+use coniks_threads::Gate;
 use coniks_tree::{OutOfMemory, Part, Root};
 use std::alloc::Global;
 use std::thread::Threads;
@@ -35,14 +36,6 @@ pub(crate) struct Origin<'a, H: Hash32, X: IndexSource> {
     pub(crate) h: &'a H,
     pub(crate) source: &'a X,
     pub(crate) stored: &'a DirectoryState,
-}
-
-/// The way in which an epoch's tree is built: the worker threads and the split depth, and the gate before each job.
-#[derive(Drop)]
-pub(crate) struct Build<'a, G: Gate + Sync, R: Threads + Sync> {
-    pub(crate) rt: &'a R,
-    pub(crate) parallelism: Parallelism,
-    pub(crate) gate: &'a G,
 }
 
 /// Returns the version of an epoch's entry after one of this version, with an optional new nonce.
@@ -65,36 +58,43 @@ fn nonce_after(new_nonce: Option<Nonce>, latest: Nonce) -> Nonce
     }
 }
 
+/// What an epoch's tree is built on: the root before it, if there is one, and its nonce.
+///
+/// If it is built anew, nothing of the root is retained.
+#[derive(Clone, Copy)]
+pub(crate) struct Ground {
+    pub(crate) root: Option<Root>,
+    pub(crate) is_anew: bool,
+    pub(crate) nonce: Nonce,
+}
+
 /// Returns the part of the checked operations.
 ///
-/// It is the map under the root, or the empty map if there is none, overwritten by their changes. If it is made anew,
-/// nothing of the root is retained.
+/// It is the map under the root, or the empty map if there is none, overwritten by their changes.
 pub(crate) fn part_of<H: Hash32 + Sync, X: IndexSource, G: Gate + Sync, R: Threads + Sync>(
     build: &Build<'_, G, R>,
     origin: &Origin<'_, H, X>,
     pending: &PendingRecords,
-    root: Option<Root>,
-    is_anew: bool,
-    nonce: &Nonce,
+    ground: &Ground,
 ) -> Result<Part, OutOfMemory>
     requires numbered { All (λ n. n < length pending.now.records.items) (values pending.now.numbers) }
-    requires root { IfSome root (λ r. r.0 < length origin.now.stored.now.tree.nodes) }
+    requires root { IfSome ground.now.root (λ r. r.0 < length origin.now.stored.now.tree.nodes) }
     ensures { IfOk result (λ part. (index_of : Octets → Octets) (latest : Octets) (registry : Registry) (ops : List Operation)
-        → (is_anew ≡ false → latest ≡ nonce.now.0)
-        → ShowsLatest (H.digest_of origin.now.h.now) index_of latest (table_of origin.now.stored.now.tree) root registry
+        → (ground.now.is_anew ≡ false → latest ≡ ground.now.nonce.0)
+        → ShowsLatest (H.digest_of origin.now.h.now) index_of latest (table_of origin.now.stored.now.tree) ground.now.root registry
         → ArePendingRecords (H.digest_of origin.now.h.now) index_of (map bound_by ops) pending.now.records.items pending.now.numbers
         → AreCommitted (H.digest_of origin.now.h.now) pending.now.records.items → first_fault index_of registry ops ≡ None
-        → IsBuilt (H.digest_of origin.now.h.now) index_of nonce.now.0
-        (table_of origin.now.stored.now.tree) root registry ops is_anew part pending.now.records.items) }
+        → IsBuilt (H.digest_of origin.now.h.now) index_of ground.now.nonce.0
+        (table_of origin.now.stored.now.tree) ground.now.root registry ops ground.now.is_anew part pending.now.records.items) }
 {
     let Origin { alloc, stored, .. } = *origin;
     let changes = changes_of(alloc, stored.tree.records(), pending)?;
-    let growth = growth_of(alloc, &stored.tree, root, is_anew, changes)?;
+    let growth = growth_of(alloc, &stored.tree, ground.root, ground.is_anew, changes)?;
     Ok(coniks_threads::build(
         build.rt,
         alloc,
         origin.h,
-        nonce,
+        &ground.nonce,
         &stored.tree,
         growth.root,
         &growth.changes,
@@ -183,7 +183,12 @@ pub(crate) fn update_on<H: Hash32 + Sync, X: IndexSource, G: Gate + Sync, R: Thr
     let version = version_after(new_nonce, stored.latest_version());
     let nonce = nonce_after(new_nonce, stored.latest_nonce());
     let pending = checked(build, origin, root, ops)?;
-    let Ok(part) = part_of(build, origin, &pending, root, new_nonce.is_some(), &nonce) else {
+    let ground = Ground {
+        root,
+        is_anew: new_nonce.is_some(),
+        nonce,
+    };
+    let Ok(part) = part_of(build, origin, &pending, &ground) else {
         return Err(BatchFault::OutOfMemory);
     };
     match update_of(stored, version, nonce, part, pending) {

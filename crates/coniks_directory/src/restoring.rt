@@ -12,9 +12,10 @@ ghost use Rattle.coniks_directory.specs.Restored.{IsEntryFault, IsRestorable, Is
 ghost use Rattle.coniks_directory.specs.State.{IsDirectory, IsLinked, Whole, opened, state_of};
 ghost use Rattle.coniks_directory.specs.Updates.{IsUpdate, nodes_added, registry_after};
 
-use crate::install::{enter, make_room};
+use crate::build::Build;
+use crate::install::{SignedEntry, enter, make_room};
 use crate::pending::PendingRecords;
-use crate::preparing::{Build, Origin, part_of, update_of};
+use crate::preparing::{Ground, Origin, part_of, update_of};
 use crate::source::IndexSource;
 use crate::state::DirectoryState;
 use crate::update::Prepared;
@@ -88,7 +89,12 @@ fn first_update<H: Hash32 + Sync, X: IndexSource, G: Gate + Sync, R: Threads + S
 {
     let nonce = entry.body.nonce;
     pending.commit_records(build, origin.h);
-    let part = part_of(build, origin, &pending, None, false, &nonce)?;
+    let ground = Ground {
+        root: None,
+        is_anew: false,
+        nonce,
+    };
+    let part = part_of(build, origin, &pending, &ground)?;
     let update = update_of(origin.stored, entry.body.version, nonce, part, pending)?;
     Ok(update)
 }
@@ -122,31 +128,43 @@ fn enter_first<H: Hash32>(
     make_room(stored, &update)?;
     let t = entry.body.t;
     stored.before = Some(stated_before(&entry));
-    enter(stored, h, update, t, entry, link(h, &entry));
+    let link = link(h, &entry);
+    enter(stored, h, update, t, SignedEntry { entry, link });
     Ok(())
 }
 
+/// A restore so far: the entry, the state of `open` under its nonce and policy, and the records of the bindings.
+#[derive(Drop)]
+pub(crate) struct Begun {
+    pub(crate) entry: Entry,
+    pub(crate) stored: DirectoryState,
+    pub(crate) pending: PendingRecords,
+}
+
 /// Returns the state of a directory whose only epoch is that of the entry, with these bindings.
-///
-/// The state before is that of `open`, under the entry's nonce and policy.
 pub(crate) fn restored<H: Hash32 + Sync, X: IndexSource, G: Gate + Sync, R: Threads + Sync>(
     build: &Build<'_, G, R>,
     alloc: Global,
     h: &H,
     source: &X,
-    entry: Entry,
-    mut stored: DirectoryState,
-    pending: PendingRecords,
+    begun: Begun,
 ) -> Result<DirectoryState, RestoreFault>
-    requires { IsRestoring (H.digest_of h.now) (X.index_of source.now) entry (state_of stored) pending.records.items pending.numbers }
+    requires { IsRestoring (H.digest_of h.now) (X.index_of source.now) begun.entry (state_of begun.stored)
+        begun.pending.records.items begun.pending.numbers }
     ensures retained { IfOk result (λ later. IsDirectory (H.digest_of h.now) (X.index_of source.now) later) }
-    ensures restored { IfOk result (λ later. Restores entry (registrations pending.records.items) (state_of later)) }
-    ensures nodes { IfOk result (λ later. length (state_of later).nodes ≡ epoch_nodes (X.index_of source.now) [] None (registrations pending.records.items)) }
+    ensures restored { IfOk result (λ later. Restores begun.entry (registrations begun.pending.records.items) (state_of later)) }
+    ensures nodes { IfOk result (λ later. length (state_of later).nodes
+        ≡ epoch_nodes (X.index_of source.now) [] None (registrations begun.pending.records.items)) }
     ensures accepted { OnOk result (IsRestorable (H.digest_of h.now) (X.index_of source.now)
-        entry (registrations pending.records.items)) }
+        begun.entry (registrations begun.pending.records.items)) }
     ensures refused { IfErr result (IsRestoreFault (H.digest_of h.now) (X.index_of source.now)
-        entry (registrations pending.records.items)) }
+        begun.entry (registrations begun.pending.records.items)) }
 {
+    let Begun {
+        entry,
+        mut stored,
+        pending,
+    } = begun;
     let origin = Origin {
         alloc,
         h,

@@ -13,7 +13,7 @@ ghost use Rattle.coniks_threads.specs.Grown.{IsOldMap, unchanged};
 use crate::gate::Gate;
 use crate::growing::{Growing, Old};
 use crate::jobs::{MAX_DEPTH, all_jobs};
-use crate::parallelism::Parallelism;
+use crate::parallelism::{Parallelism, Wanted};
 use crate::pool::all_parts;
 use crate::upwards::join_upwards;
 use coniks_proof::{Hash32, Nonce, Prefix};
@@ -111,7 +111,10 @@ pub fn build<H: Hash32 + Sync, G: Gate + Sync, R: Threads + Sync>(
     if changes.is_empty() {
         return Ok(unchanged_part(root));
     }
-    let depth = cut_for(Parallelism::nearest(workers, depth), changes.len());
+    let depth = cut_for(
+        Parallelism::nearest(Wanted { workers, depth }),
+        changes.len(),
+    );
     let jobs = all_jobs(alloc, changes, depth)?;
     let old = Old {
         tree,

@@ -59,4 +59,4 @@ pub use claims::{Claims, Drawer, MAX_DRAWERS, MAX_NUMBERS};
 pub use errors::{BoardFull, NoBoard, NoClaims, NoSeat};
 pub use gate::{Gate, Open};
 pub use jobs::{Job, MAX_DEPTH, split};
-pub use parallelism::{Parallelism, ParallelismFault};
+pub use parallelism::{Parallelism, ParallelismFault, Wanted};

@@ -17,6 +17,13 @@ pub struct Parallelism {
     pub ghost within: { AreWithinLimits workers depth },
 }
 
+/// A number of workers and a split depth as a caller wants them, within their limits or not.
+#[derive(Clone, Copy, Debug)]
+pub struct Wanted {
+    pub workers: usize,
+    pub depth: usize,
+}
+
 impl Parallelism {
     ghost use Rattle.std.specs.Prelude.{◌≡◌, ◌<◌, ◌≤◌, IfErr, IfOk, OnOk};
     ghost use Rattle.coniks_threads.specs.Parallel.{AreWithinLimits, AreWorkers, IsParallelismFault};
@@ -29,12 +36,13 @@ impl Parallelism {
     ///
     /// - `Workers` if `workers` is not 1 to `MAX_WORKERS`.
     /// - `Depth` if `depth` is more than `MAX_DEPTH`.
-    pub fn new(workers: usize, depth: usize) -> Result<Parallelism, ParallelismFault>
-        ensures workers { IfOk result (λ p. p.workers ≡ workers) }
-        ensures depth { IfOk result (λ p. p.depth ≡ depth) }
-        ensures within { OnOk result (AreWithinLimits workers depth) }
-        ensures refused { IfErr result (IsParallelismFault workers depth) }
+    pub fn new(wanted: Wanted) -> Result<Parallelism, ParallelismFault>
+        ensures workers { IfOk result (λ p. p.workers ≡ wanted.workers) }
+        ensures depth { IfOk result (λ p. p.depth ≡ wanted.depth) }
+        ensures within { OnOk result (AreWithinLimits wanted.workers wanted.depth) }
+        ensures refused { IfErr result (IsParallelismFault wanted.workers wanted.depth) }
     {
+        let Wanted { workers, depth } = wanted;
         if workers == 0 || workers > MAX_WORKERS {
             return Err(ParallelismFault::Workers);
         }
@@ -45,16 +53,16 @@ impl Parallelism {
     }
 
     /// Returns the numbers within the limits that are nearest to these.
-    pub fn nearest(workers: usize, depth: usize) -> Parallelism
-        ensures within { AreWorkers workers → result.workers ≡ workers }
-        ensures one { workers ≡ 0 → result.workers ≡ 1 }
-        ensures most { MAX_WORKERS < workers → result.workers ≡ MAX_WORKERS }
-        ensures shallow { depth ≤ MAX_DEPTH → result.depth ≡ depth }
-        ensures deepest { MAX_DEPTH < depth → result.depth ≡ MAX_DEPTH }
+    pub fn nearest(wanted: Wanted) -> Parallelism
+        ensures within { AreWorkers wanted.workers → result.workers ≡ wanted.workers }
+        ensures one { wanted.workers ≡ 0 → result.workers ≡ 1 }
+        ensures most { MAX_WORKERS < wanted.workers → result.workers ≡ MAX_WORKERS }
+        ensures shallow { wanted.depth ≤ MAX_DEPTH → result.depth ≡ wanted.depth }
+        ensures deepest { MAX_DEPTH < wanted.depth → result.depth ≡ MAX_DEPTH }
     {
         Parallelism {
-            workers: workers.clamp(1, MAX_WORKERS),
-            depth: depth.min(MAX_DEPTH),
+            workers: wanted.workers.clamp(1, MAX_WORKERS),
+            depth: wanted.depth.min(MAX_DEPTH),
         }
     }
 

@@ -16,11 +16,11 @@ ghost use Rattle.coniks_directory.specs.declared.batch.OpFault.{OpFault};
 ghost use Rattle.coniks_directory.specs.Restored.{IsEntryFault, IsRestorable, IsRestoreFault, Restores};
 
 use crate::batch::{BatchFault, Op};
+use crate::build::Build;
 use crate::directory::Directory;
 use crate::judge::judge_copies;
 use crate::pending::PendingRecords;
-use crate::preparing::Build;
-use crate::restoring::{RestoreFault, check_entry, restored};
+use crate::restoring::{Begun, RestoreFault, check_entry, restored};
 use crate::source::IndexSource;
 use crate::state::DirectoryState;
 use crate::supplied::SuppliedIndices;
@@ -103,7 +103,7 @@ impl<H: Hash32, X: IndexSource> Restoring<H, X> {
         ensures unchanged { OnErr result (self.new ≡ self.old) }
     {
         let (alloc, tree) = (self.alloc, &self.stored.tree);
-        judge_copies(alloc, &self.source, tree, None, &mut self.pending, bindings)?;
+        judge_copies(alloc, &self.source, tree, &mut self.pending, bindings)?;
         Ok(())
     }
 }
@@ -202,7 +202,12 @@ impl<H: Hash32 + Sync + Drop, X: IndexSource + Drop> Restoring<H, X> {
             stored,
             pending,
         } = self;
-        let stored = restored(&build, alloc, &h, &source, entry, stored, pending)?;
+        let begun = Begun {
+            entry,
+            stored,
+            pending,
+        };
+        let stored = restored(&build, alloc, &h, &source, begun)?;
         Ok(Directory {
             alloc,
             h,

@@ -9,13 +9,14 @@ ghost use Rattle.coniks_directory.specs.Supplied.{IsMissedAt, MaySupply};
 ghost use Rattle.coniks_directory.specs.Updates.{IsUpdateOf};
 
 use crate::batch::{BatchFault, Op, check_length};
+use crate::build::Build;
 use crate::directory::Directory;
-use crate::install::{check_next, enter, make_room};
+use crate::install::{SignedEntry, check_next, enter, make_room};
 use crate::judge::judged;
 use crate::lengths::is_name;
 use crate::linked::LinkedEntry;
 use crate::lookup::{LookupAtFault, SignedProof};
-use crate::preparing::{Build, Origin, update_on};
+use crate::preparing::{Origin, update_on};
 use crate::source::IndexSource;
 use crate::supplied::{SuppliedIndices, SupplyFault, SupplyIndex};
 use crate::supplied_batch::{BatchIndices, OwnedBatch, SuppliedBatchFault, earlier_of, supply_all};
@@ -152,7 +153,13 @@ impl<H: Hash32> Directory<H, SuppliedIndices> {
         if supply_all(&mut self.source, &update.records).is_err() {
             return Err((InstallFault::OutOfMemory, update));
         }
-        enter(&mut self.stored, &self.h, update, t, entry, link);
+        enter(
+            &mut self.stored,
+            &self.h,
+            update,
+            t,
+            SignedEntry { entry, link },
+        );
         Ok(())
     }
 
@@ -340,8 +347,7 @@ impl<H: Hash32 + Sync, X: IndexSource> Directory<H, X> {
         requires { length ops.items ≡ length supplied.now }
         ensures { IsSuppliedResult H.digest_of X.index_of self.now nonce ops.items supplied.now build.now.parallelism result }
     {
-        // Read for the contract alone.
-        let _ = &self.stored;
+        let stored = &self.stored;
         if let Err(fault) = check_length(&ops) {
             return Err(SuppliedBatchFault::Batch(fault));
         }
@@ -355,7 +361,7 @@ impl<H: Hash32 + Sync, X: IndexSource> Directory<H, X> {
             alloc: self.alloc,
             h: &self.h,
             source: &indices,
-            stored: &self.stored,
+            stored,
         };
         match update_on(build, &origin, nonce, ops) {
             Ok(update) => Ok(update),

@@ -13,9 +13,9 @@ returns g c = λ index_of latest registry ops under shown pending committed none
     let e = c.in_ok-build.ensures in
     let made = c.in_ok-changes.ensures hash index_of (map bound_by ops) pending in
     let at = subst (λ n. AreChangesOf n new.records.items (entries_in c.in_ok-changes.changes.items)) c.records.ensures.count made in
-    built hash index_of c.args.nonce.now.0 latest (table_of tree) c.args.root registry ops new.records.items new.numbers c.in_ok-changes.changes.items
+    built hash index_of c.args.ground.now.nonce.0 latest (table_of tree) c.args.ground.now.root registry ops new.records.items new.numbers c.in_ok-changes.changes.items
     c.in_ok-growth.growth _ shown none pending committed at
-    c.args.is_anew c.in_ok-growth.ensures under
+    c.args.ground.now.is_anew c.in_ok-growth.ensures under
     (record {
       fits = e.fits;
       few = rw c.deref.ensures.value at e.count;

@@ -26,8 +26,8 @@ returns-in-Err-signed-clause-retained g c =
 
 pub returns-in-Err-signed-clause-outcome : goal.returns-in-Err-signed-clause-outcome
 returns-in-Err-signed-clause-outcome g c = (
-  rw (← c.self.view_is, ← c.published-published.ensures, ← c.capacity-capacity.ensures)
-      (c.in-Err-signed.ensures.refused (state_of c.self.inside.stored) c.args.update.base c.published-published.result c.capacity-capacity.result c.in_default.ensures.ok),
+  rw (← c.self.view_is)
+      (c.in-Err-signed.ensures.refused (state_of c.self.inside.stored) c.args.update.base (length c.args.publisher.now.heads) c.args.board.now.capacity c.in_default.ensures.ok),
   refl,
 )
 

@@ -1,4 +1,4 @@
-use Rattle.std.proofs.Common.{◌≡◌, [], Err, None, map, refl, rules, ◌∙◌}
+use Rattle.std.proofs.Common.{◌≡◌, [], Err, None, map, rules, ◌∙◌}
 use Rattle.coniks_directory.proofs.Words.{IsJudgedFaultAfter, fault_from, operations, registered_of}
 use Rattle.coniks_directory.specs.Restored.{registrations}
 use Rattle.coniks_directory.proofs.PendingLemmas.{by_records}
@@ -10,7 +10,7 @@ returns-in_err-judge_copies-clause-refused g c =
     let r = c.self.inside in
     let bound = map registered_of r.pending.records.items in
     let is : c.from_residual.result ≡ Err c.in_err-judge_copies.field-0.0 = search rules in
-    let fault = c.in_err-judge_copies.ensures.fault (g.H.Hash32.digest_of r.h) [] [] bound refl c.self.invariant.pending in
+    let fault = c.in_err-judge_copies.ensures.fault (g.H.Hash32.digest_of r.h) bound c.self.invariant.pending in
     rw is (at_view (λ x bs. IsJudgedFaultAfter (g.X.IndexSource.index_of x) [] bs (operations c.args.bindings.now) c.in_err-judge_copies.field-0.0) _ _ bound
     c.self.view_is (bound_registrations bound) fault)
 
@@ -28,7 +28,7 @@ invariant_of-self-2 g c =
       opened = i.opened;
       pending = by_records hash index_of _ _ _ s;
       faultless = added_faultless hash index_of old new.records.items new.numbers (operations c.args.bindings.now) s i.faultless
-          (c.in_ok-judge_copies.ensures.faultless hash [] [] (map registered_of old) refl i.pending);
+          (c.in_ok-judge_copies.ensures.faultless hash (map registered_of old) i.pending);
     }
 
 pub returns-clause-added : goal.returns-clause-added
@@ -41,7 +41,7 @@ returns-clause-added g c =
     let ops = operations c.args.bindings.now in
     view_is r.h r.source r.entry (registrations new.records.items) _
     (added_ops hash (g.X.IndexSource.index_of r.source) old new.records.items new.numbers ops (c.in_ok-judge_copies.ensures.pending hash (map registered_of old) i.pending) i.faultless
-    (c.in_ok-judge_copies.ensures.faultless hash [] [] (map registered_of old) refl i.pending))
+    (c.in_ok-judge_copies.ensures.faultless hash (map registered_of old) i.pending))
     ∙ view_more _ _ ops c.self.view_is
 
 pub returns-clause-accepted : goal.returns-clause-accepted
@@ -50,4 +50,4 @@ returns-clause-accepted g c =
     let bound = map registered_of r.pending.records.items in
     let ops = operations c.args.bindings.now in
     at_view (λ x bs. fault_from (g.X.IndexSource.index_of x) [] bs 0 ops ≡ None) _ _ bound
-    c.self.view_is (bound_registrations bound) (c.in_ok-judge_copies.ensures.faultless (g.H.Hash32.digest_of r.h) [] [] bound refl c.self.invariant.pending)
+    c.self.view_is (bound_registrations bound) (c.in_ok-judge_copies.ensures.faultless (g.H.Hash32.digest_of r.h) bound c.self.invariant.pending)
