@@ -1,6 +1,6 @@
 //! The holder of an index, and the error of an operation there.
 
-ghost use Rattle.std.specs.Prelude.{◌≡◌, ◌<◌, List, Bool, IfSome, None, length, option_map, true};
+ghost use Rattle.std.specs.Prelude.{◌≡◌, ◌<◌, List, IfSome, None, length, option_map, true};
 ghost use Rattle.coniks_proof.specs.Batches.{clashes, fault_of, fits, kind_fault};
 ghost use Rattle.coniks_proof.specs.Octets.{Octets};
 ghost use Rattle.coniks_proof.specs.Registry.{Registered, Registry, has_name};

@@ -1,6 +1,6 @@
 //! The root that an epoch's tree grows from, and the changes.
 
-ghost use Rattle.std.specs.Prelude.{◌≡◌, ◌++◌, ◌<◌, ◌≤◌, [], List, IfOk, IfSome, None, OnOk, length};
+ghost use Rattle.std.specs.Prelude.{◌≡◌, ◌++◌, ◌<◌, ◌≤◌, List, IfOk, IfSome, None, OnOk, length};
 ghost use Rattle.coniks_proof.specs.Changes.{overwritten};
 ghost use Rattle.coniks_proof.specs.Hashing.{Hashing};
 ghost use Rattle.coniks_tree.specs.Trees.{table_of};

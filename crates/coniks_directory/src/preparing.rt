@@ -1,12 +1,12 @@
 //! The update of a batch.
 
-ghost use Rattle.std.specs.Prelude.{◌≡◌, ◌<◌, ◌-◌, ◌^◌, All, IfErr, IfOk, IfSome, List, None, OnOk, false, length, map};
+ghost use Rattle.std.specs.Prelude.{◌≡◌, ◌<◌, ◌-◌, All, IfErr, IfOk, IfSome, List, None, OnOk, false, length, map};
 ghost use Rattle.std.specs.BTreeMap.{values};
 ghost use Rattle.coniks_proof.specs.Batches.{Operation, bound_by, first_fault};
 ghost use Rattle.coniks_proof.specs.Octets.{Octets};
 ghost use Rattle.coniks_proof.specs.Registry.{Registry};
 ghost use Rattle.coniks_tree.specs.Trees.{table_of};
-ghost use Rattle.coniks_tree.specs.Parts.{Fits, node_count};
+ghost use Rattle.coniks_tree.specs.Parts.{Fits};
 ghost use Rattle.coniks_directory.specs.Batches.{operations};
 ghost use Rattle.coniks_directory.specs.Built.{IsBuilt, IsUpdateBy};
 ghost use Rattle.coniks_directory.specs.History.{latest_registry, nonce_after, nonce_bytes, version_after};

@@ -1,6 +1,6 @@
 //! The state of a directory that is restored from a snapshot.
 
-ghost use Rattle.std.specs.Prelude.{◌≡◌, ◌≢◌, ◌≤◌, ◌+◌, ◌++◌, [], None, List, IfErr, IfOk, OnOk, length, true, false};
+ghost use Rattle.std.specs.Prelude.{◌≡◌, ◌≢◌, ◌+◌, ◌++◌, [], None, List, IfErr, IfOk, OnOk, length, true, false};
 ghost use Rattle.coniks_chain.specs.Evidence.{IsWellFormed};
 ghost use Rattle.coniks_proof.specs.Batches.{Operation, after};
 ghost use Rattle.coniks_proof.specs.Octets.{Octets};

@@ -1,6 +1,6 @@
 //! The state of a directory.
 
-ghost use Rattle.std.specs.Prelude.{◌≡◌, ◌-◌, [], length, slice_get};
+ghost use Rattle.std.specs.Prelude.{◌≡◌, ◌-◌, length, slice_get};
 ghost use Rattle.coniks_proof.specs.Octets.{Octets};
 ghost use Rattle.coniks_directory.specs.History.{latest_epoch, latest_nonce, latest_version};
 ghost use Rattle.coniks_directory.specs.Holders.{IsLatestRoot};

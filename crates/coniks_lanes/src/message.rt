@@ -1,6 +1,6 @@
 //! Messages that are two blocks.
 
-ghost use Rattle.std.specs.Prelude.{◌≡◌, ◌<◌, ◌≤◌, List, ℕ, length, flat_map, replicate, take, drop, MatchOption};
+ghost use Rattle.std.specs.Prelude.{◌≡◌, ◌<◌, ◌≤◌, List, ℕ, length, flat_map, replicate, take, MatchOption};
 ghost use Rattle.sha2.specs.Sha256.{padded_message};
 ghost use Rattle.coniks_lanes.specs.Messages.{BeginWith, IsTwoBlocks, block};
 

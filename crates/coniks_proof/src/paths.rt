@@ -1,7 +1,6 @@
 //! Authentication paths: from the root of the tree to an empty node or a leaf (CONIKS, section 3.1).
 
 ghost use Rattle.std.specs.Prelude.{◌≡◌, ◌+◌, ◌<◌, ◌≤◌, length};
-ghost use Rattle.coniks_proof.specs.Bits.{bit_at};
 ghost use Rattle.coniks_proof.specs.Hashing.{hashing};
 ghost use Rattle.coniks_proof.specs.ProofRefs.{listed, owned};
 ghost use Rattle.coniks_proof.specs.Proofs.{LengthsFit, end_preimage, joined, preimage};

@@ -1,6 +1,6 @@
 //! The preimages on a way to an index, as byte strings in memory.
 
-ghost use Rattle.std.specs.Prelude.{◌≡◌, ◌++◌, ◌≤◌, ◌+◌, flat_map, length, IfOk};
+ghost use Rattle.std.specs.Prelude.{◌≡◌, ◌≤◌, ◌+◌, flat_map, length, IfOk};
 ghost use Rattle.coniks_proof.specs.Collisions.{committed};
 ghost use Rattle.coniks_proof.specs.Hashing.{hashing};
 ghost use Rattle.coniks_proof.specs.Preimages.{commitment_preimage, empty_preimage, leaf_preimage};

@@ -1,6 +1,6 @@
 //! The work of the jobs: each grows the part of its prefix.
 
-ghost use Rattle.std.specs.Prelude.{◌≡◌, ◌<◌, ◌≤◌, List, [], length, slice_get, IfOk, IfSome, None, Some, false, All};
+ghost use Rattle.std.specs.Prelude.{◌≡◌, ◌<◌, ◌≤◌, List, length, slice_get, IfOk, IfSome, None, Some, false};
 ghost use Rattle.std.proofs.Props.{props};
 ghost use Rattle.coniks_proof.specs.Entries.{under};
 ghost use Rattle.coniks_proof.specs.Hashing.{Hashing, hashing};

@@ -1,6 +1,6 @@
 //! The entries under a root, in the order of their indices.
 
-ghost use Rattle.std.specs.Prelude.{◌≡◌, ◌++◌, [], ◌<◌, ◌-◌, List, length, slice_get, IfOk, OnOk, Bool};
+ghost use Rattle.std.specs.Prelude.{◌≡◌, ◌++◌, ◌<◌, ◌-◌, List, length, slice_get, IfOk, OnOk, Bool};
 ghost use Rattle.coniks_proof.specs.Hashing.{Hashing};
 ghost use Rattle.coniks_tree.specs.Entries.{AreStored, entries_at, entry_at, in_order};
 ghost use Rattle.coniks_tree.specs.Parts.{AllPlaced, entries_in};

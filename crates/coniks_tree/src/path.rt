@@ -1,6 +1,6 @@
 //! The way to an index: its end, and the authentication path.
 
-ghost use Rattle.std.specs.Prelude.{◌≡◌, ◌++◌, ◌∷◌, [], ◌<◌, ◌≤◌, ◌+◌, List, length, IfOk, IfSome, None, Bool, not, map};
+ghost use Rattle.std.specs.Prelude.{◌≡◌, [], ◌<◌, ◌≤◌, ◌+◌, List, length, IfOk, IfSome, None, Bool, not, map};
 ghost use Rattle.coniks_proof.specs.Bits.{bit_at};
 ghost use Rattle.coniks_proof.specs.Entries.{backed_by};
 ghost use Rattle.coniks_proof.specs.Hashing.{Hashing};

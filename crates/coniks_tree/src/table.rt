@@ -1,7 +1,5 @@
 //! The nodes and records of a tree, which are numbered.
 
-ghost use Rattle.std.specs.Prelude.{◌≡◌, ◌<◌};
-
 use coniks_proof::{Binding, Digest, Index, Opening};
 
 /// The number of a record: its position in the list of a tree's records, from 0.

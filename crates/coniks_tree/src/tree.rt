@@ -1,6 +1,6 @@
 //! The tree.
 
-ghost use Rattle.std.specs.Prelude.{◌≡◌, ◌++◌, ◌∷◌, [], ◌<◌, ◌≤◌, ◌+◌, ◌*◌, ◌-◌, ◌^◌, List, ℕ, length, slice_get, IfOk, IfSome, Some, OnOk, Bool, false, true, map, min};
+ghost use Rattle.std.specs.Prelude.{◌≡◌, ◌++◌, [], ◌<◌, ◌≤◌, ◌+◌, ◌*◌, ◌-◌, ◌^◌, List, ℕ, length, slice_get, IfOk, IfSome, Some, OnOk, Bool, false, true, map, min};
 ghost use Rattle.coniks_proof.specs.Bits.{child};
 ghost use Rattle.coniks_proof.specs.Entries.{backed_by, half, under};
 ghost use Rattle.coniks_proof.specs.Changes.{overwritten, AreApart, AreInOrder};
