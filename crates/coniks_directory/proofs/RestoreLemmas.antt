@@ -1,7 +1,6 @@
 -- What a restore leaves, and its bindings so far.
-use Rattle.std.proofs.Common.{◌≡◌, ◌+◌, ℕ, zero, suc, List, [], ◌∷◌, ◌++◌, length, map, slice_get, Bool, true, false, if◌then◌else◌, refl, sym, ap, subst, ◌∙◌, append_assoc, arith, inl, inr, Option, Some, None}
-use Rattle.std.specs.Prelude.{not}
-use Rattle.coniks_proof.specs.Batches.{Kind, change, key_length, name_length, name_twice, or_else, register}
+use Rattle.std.proofs.Common.{◌≡◌, ◌+◌, ℕ, zero, suc, List, [], ◌∷◌, ◌++◌, length, map, slice_get, Bool, true, false, refl, sym, ap, subst, ◌∙◌, append_assoc, arith, inl, inr, Option, Some, None}
+use Rattle.coniks_proof.specs.Batches.{Kind, change, register}
 use Rattle.coniks_proof.specs.Hashing.{hashing}
 use Rattle.coniks_proof.specs.Registry.{root_of}
 use Rattle.coniks_tree.specs.Table.{table}
@@ -13,13 +12,13 @@ use Rattle.coniks_directory.specs.Installed.{Attached, IsFirst}
 use Rattle.coniks_directory.specs.Nodes.{epoch_nodes}
 use Rattle.coniks_directory.specs.Restored.{RestoringView, Restores, registration, registrations, restored_epoch, stated_before}
 use Rattle.coniks_directory.specs.State.{opened}
-use Rattle.coniks_proof.proofs.Lemmas.{placed_none}
+use Rattle.coniks_proof.proofs.Lemmas.{clear_of, placed_none}
 use Rattle.coniks_directory.proofs.MirrorLemmas.{mirrored_root}
 use Rattle.coniks_directory.proofs.StateLemmas.{registry_at-all}
-use Rattle.coniks_directory.proofs.Words.{ArePendingRecords, AuditorState, BTreeMap, Continues, Epoch, Fault, Follows, HoldsEpoch, IsBuilt, IsUpdate, MAX_KEY, MAX_NAME, Nonce}
+use Rattle.coniks_directory.proofs.Words.{ArePendingRecords, AuditorState, BTreeMap, Continues, Epoch, Follows, HoldsEpoch, IsBuilt, IsUpdate, Nonce}
 use Rattle.coniks_directory.proofs.Words.{Numbered, Operation, Prepared, Record, Registered, Registry, RotatesTo, Shown, Stands, State, Whole, after, append-nil}
-use Rattle.coniks_directory.proofs.Words.{before_at, auditor_after, body_bytes, body_of, bound_by, clashes, fault_from, fault_of, first_fault, fits, has_name, history_of}
-use Rattle.coniks_directory.proofs.Words.{index_clash, kind_fault, map-append, node, overlaid, placed, records_after, registered_of, registry_after, same_Some, shown_after}
+use Rattle.coniks_directory.proofs.Words.{before_at, auditor_after, body_bytes, body_of, bound_by, fault_from, fault_of, first_fault, history_of}
+use Rattle.coniks_directory.proofs.Words.{kind_fault, map-append, node, overlaid, placed, records_after, registered_of, registry_after, same_Some, shown_after}
 
 -- the state of `open` is a directory's
 pub opened_whole : (hash index_of : List ℕ → List ℕ) (nonce policy : List ℕ) → Whole hash index_of (opened nonce policy)
@@ -158,19 +157,14 @@ pub bound_registrations : (bs : List Registered) → map bound_by (map registrat
 bound_registrations [] = refl
 bound_registrations (b ∷ bs) = ap (λ xs. b ∷ xs) (bound_registrations bs)
 
--- an operation on no name without an error registers its name
-kind_of : (a b c : Bool) (kind : Kind) (later : Option Fault)
-    → (if a then Some name_length else (if b then Some key_length else (if c then Some name_twice else or_else (kind_fault kind false) later))) ≡ None → kind ≡ register
-kind_of true b c kind later none = absurd (let never = none in cc)
-kind_of false true c kind later none = absurd (let never = none in cc)
-kind_of false false true kind later none = absurd (let never = none in cc)
-kind_of false false false register later none = refl
-kind_of false false false change later none = absurd (let never = none in cc)
+-- a kind without an error on an absent name is that of a registration
+kind_of : (kind : Kind) → kind_fault kind false ≡ None → kind ≡ register
+kind_of register none = refl
+kind_of change none = absurd (let never = none in cc)
 
+-- an operation on no name without an error registers its name
 registers : (index_of : List ℕ → List ℕ) (earlier : List Registered) (op : Operation) → fault_of index_of [] earlier op ≡ None → op.kind ≡ register
-registers index_of earlier op none =
-    kind_of (not (fits MAX_NAME op.name)) (not (fits MAX_KEY op.key)) (has_name earlier op.name) op.kind
-    (if clashes index_of earlier op.name then Some index_clash else None) none
+registers index_of earlier op none = kind_of op.kind (clear_of index_of [] earlier op none).kind
 
 -- operations without an error on no names register what they bind
 pub registrations_are : (index_of : List ℕ → List ℕ) (earlier : List Registered) (place : ℕ) (ops : List Operation)
