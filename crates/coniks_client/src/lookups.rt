@@ -1,12 +1,12 @@
 //! A client's lookup.
 
-ghost use Rattle.std.specs.Prelude.{◌≡◌, ◌≢◌, ◌<◌, ◌+◌, ◌↔◌, ℕ, Any, IfErr, IfNone, IfOk, IfSome, IsTrue, OnOk, Option, Some, None, length, slice_get};
+ghost use Rattle.std.specs.Prelude.{◌≡◌, ◌≢◌, ◌<◌, ◌+◌, ◌↔◌, ℕ, Any, IfErr, IfNone, IfOk, IfSome, IsOkAnd, IsTrue, OnOk, Option, Some, None, length, slice_get};
 ghost use Rattle.std.specs.Option.{option_map};
 ghost use Rattle.coniks_proof.specs.Octets.{Octets};
 ghost use Rattle.coniks_proof.specs.Proofs.{stated};
 ghost use Rattle.coniks_client.specs.StoredEntry.{entry_in, epoch_in};
 ghost use Rattle.coniks_chain.specs.Entries.{entry_from};
-ghost use Rattle.coniks_client.specs.Lookups.{Answers, AnswersNone, IsRequested, IsElsewhere, IsFound, IsStored, IsNotFound, IsThere, IsUnknown, IsUnvetted, IsUnvettedReply, IsVetted, IsVettedReply, Shows, ShowsNone};
+ghost use Rattle.coniks_client.specs.Lookups.{Answers, AnswersBy, AnswersNone, IsRequested, IsElsewhere, IsFound, IsStored, IsNotFound, IsThere, IsUnknown, IsUnvetted, IsUnvettedReply, IsVetted, IsVettedReply, Shows, ShowsBy, ShowsNone};
 ghost use Rattle.coniks_client.specs.Replies.{entry_part, proof_part, vrf_part};
 
 use crate::feeding::{EntryFault, evidence_of, verified};
@@ -208,11 +208,11 @@ fn requested(stored: &[StoredEntry], epoch: Option<u64>) -> Option<Place>
     }
 }
 
-/// Returns whether the body of an entry's bytes is that of a stored entry.
-fn same_body(bytes: &[u8; ENTRY_BYTES], mine: &StoredEntry) -> bool
-    ensures { IsTrue result ↔ ((entry_from bytes.now).body ≡ (entry_in mine.now).body) }
+/// Returns whether the body of an entry's bytes is that of an entry.
+pub fn same_body(bytes: &[u8; ENTRY_BYTES], entry: &Entry) -> bool
+    ensures { IsTrue result ↔ ((entry_from bytes.now).body ≡ entry.now.body) }
 {
-    Entry::read(bytes).body == mine.entry().body
+    Entry::read(bytes).body == entry.body
 }
 
 /// Returns the requested epoch, if its entry has the body of these bytes.
@@ -228,7 +228,7 @@ fn requested_body(
     let Some(found) = requested(stored, epoch) else {
         return Err(LookupFault::UnknownEpoch);
     };
-    if !same_body(bytes, &found.mine) {
+    if !same_body(bytes, &found.mine.entry()) {
         return Err(LookupFault::OtherEpoch);
     }
     if let Some(fault) = lateness(present, epoch, found.mine.entry().body.t) {
@@ -260,15 +260,33 @@ fn vetted_reply<'a, V: Verify>(
     }
 }
 
-/// Returns what the bytes of a proof show of a name under an entry.
+/// A proof, and the answer with which it is accepted.
+#[derive(Drop)]
+struct Proven<'a> {
+    proof: ProofRef<'a>,
+    answer: Answer<'a>,
+}
+
+/// The VRF proof and the proof in a reply, with the index and the answer that they are accepted with.
+#[derive(Drop)]
+pub struct Saved<'a> {
+    pub vrf: &'a [u8],
+    pub index: Index,
+    pub proof: ProofRef<'a>,
+    pub answer: Answer<'a>,
+}
+
+/// Returns the proof that bytes are, if it is accepted under an entry.
 fn shown<'a, H: Hash32>(
     h: &H,
     entry: &Entry,
     index: &Index,
     name: &[u8],
     bytes: &'a [u8],
-) -> Result<Answer<'a>, LookupFault>
-    ensures ok { IfOk result (λ answer. Shows (H.digest_of h.now) entry.now index.now.0 name.now bytes.now (stated answer)) }
+) -> Result<Proven<'a>, LookupFault>
+    ensures ok { IfOk result (λ p. ShowsBy (H.digest_of h.now) entry.now index.now.0 name.now bytes.now p.proof p.answer) }
+    ensures exact { (answer : Option Octets) → Shows (H.digest_of h.now) entry.now index.now.0 name.now bytes.now answer
+        → IsOkAnd result (λ p. stated p.answer ≡ answer) }
     ensures err { IfErr result (λ fault. ShowsNone (H.digest_of h.now) entry.now index.now.0 name.now bytes.now fault) }
 {
     let proof = match ProofRef::read(bytes) {
@@ -277,8 +295,43 @@ fn shown<'a, H: Hash32>(
     };
     let body = &entry.body;
     match check_ref(h, &body.nonce, &body.root, index, name, &proof) {
-        Ok(answer) => Ok(answer),
+        Ok(answer) => Ok(Proven { proof, answer }),
         Err(fault) => Err(LookupFault::Check(fault)),
+    }
+}
+
+/// Returns what the VRF proof and the proof of a reply show of a name under an entry.
+///
+/// # Errors
+///
+/// If several apply, the first in this order is returned.
+///
+/// - `VrfProof` if the VRF proof is not one of this name.
+/// - `Wire` if the bytes after it are no proof's.
+/// - `Check` if the proof is refused.
+pub fn saved_answer<'a, H: Hash32, S: IndexScheme>(
+    h: &H,
+    scheme: &S,
+    entry: &Entry,
+    name: &[u8],
+    reply: &Reply<'a>,
+) -> Result<Saved<'a>, LookupFault>
+    ensures ok { IfOk result (λ saved. AnswersBy (H.digest_of h.now) (S.index_of scheme.now) entry.now name.now reply.now.vrf.now reply.now.proof.now saved) }
+    ensures exact { (answer : Option Octets) → Answers (H.digest_of h.now) (S.index_of scheme.now) entry.now name.now reply.now.vrf.now reply.now.proof.now answer
+        → IsOkAnd result (λ saved. stated saved.answer ≡ answer) }
+    ensures err { IfErr result (λ fault. AnswersNone (H.digest_of h.now) (S.index_of scheme.now) entry.now name.now reply.now.vrf.now reply.now.proof.now fault) }
+{
+    let Some(index) = scheme.index(name, reply.vrf) else {
+        return Err(LookupFault::VrfProof);
+    };
+    match shown(h, entry, &index, name, reply.proof) {
+        Ok(Proven { proof, answer }) => Ok(Saved {
+            vrf: reply.vrf,
+            index,
+            proof,
+            answer,
+        }),
+        Err(fault) => Err(fault),
     }
 }
 
@@ -293,10 +346,10 @@ fn answer_of<'a, H: Hash32, S: IndexScheme>(
     ensures ok { IfOk result (λ answer. Answers (H.digest_of h.now) (S.index_of scheme.now) (entry_in mine.now) name.now reply.now.vrf.now reply.now.proof.now (stated answer)) }
     ensures err { IfErr result (λ fault. AnswersNone (H.digest_of h.now) (S.index_of scheme.now) (entry_in mine.now) name.now reply.now.vrf.now reply.now.proof.now fault) }
 {
-    let Some(index) = scheme.index(name, reply.vrf) else {
-        return Err(LookupFault::VrfProof);
-    };
-    shown(h, &mine.entry(), &index, name, reply.proof)
+    match saved_answer(h, scheme, &mine.entry(), name, reply) {
+        Ok(saved) => Ok(saved.answer),
+        Err(fault) => Err(fault),
+    }
 }
 
 /// Returns what a reply shows of a name, at the requested epoch, or at the latest one if none is requested.

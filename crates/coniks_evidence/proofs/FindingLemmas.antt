@@ -22,7 +22,7 @@ use Rattle.coniks_evidence.specs.declared.findings.Reason.TheVariants.{OwnerHead
 use Rattle.coniks_evidence.specs.declared.records.ContactRecord.{ContactRecord}
 use Rattle.coniks_evidence.specs.declared.records.OwnerRecord.{OwnerRecord}
 use Rattle.coniks_evidence.specs.declared.replies.FoundReply.{FoundReply}
-use Rattle.coniks_evidence.specs.declared.replies.Saved.{Saved}
+use Rattle.coniks_client.specs.declared.lookups.Saved.{Saved}
 
 -- a VRF proof that was verified, with its index
 indexed_by : (scheme : Scheme) (name vrf : List ℕ) (saved : Saved) (p : Indexed) → saved.vrf.now ≡ vrf → scheme name vrf ≡ Some saved.index.0

@@ -1,19 +1,18 @@
 -- A saved reply, as its parts.
-use Rattle.std.proofs.Common.{◌≡◌, ℕ, List, Option, Some, sym, ap, subst, ◌∙◌, arith, length-drop}
-use Rattle.std.proofs.lemmas.Option.{same_Some}
+use Rattle.std.proofs.Common.{◌≡◌, ℕ, List, Option, sym, ap, subst, ◌∙◌, arith, length-drop}
 use Rattle.coniks_proof.specs.declared.values.Index.{Index}
 use Rattle.coniks_chain.specs.Entries.{entry_from}
 use Rattle.coniks_chain.specs.declared.entry.Body.{Body}
 use Rattle.coniks_chain.specs.declared.entry.Entry.{Entry}
-use Rattle.coniks_client.specs.Lookups.{Answers, Shows}
+use Rattle.coniks_client.specs.Lookups.{Answers, AnswersBy}
 use Rattle.coniks_client.specs.Owner.{Scheme}
 use Rattle.coniks_client.specs.Replies.{IsNoReply, IsReply, entry_part, proof_part, vrf_part}
 use Rattle.coniks_client.specs.declared.stored.StoredEntry.{StoredEntry}
 use Rattle.coniks_client.specs.declared.lookups.LookupFault.{LookupFault}
+use Rattle.coniks_client.specs.declared.lookups.Saved.{Saved}
 use Rattle.coniks_client.specs.declared.replies.ReplyFault.{ReplyFault}
 use Rattle.coniks_client.specs.declared.replies.ReplyFault.TheVariants.{NoReply, ReplyVersion, CutInEntry, CutInVrf}
-use Rattle.coniks_evidence.specs.Records.{IsAccepted, IsAcceptedAt, IsSaved, IsShownIn, IsUnaccepted, IsVerified}
-use Rattle.coniks_evidence.specs.declared.replies.Saved.{Saved}
+use Rattle.coniks_evidence.specs.Records.{IsAccepted, IsAcceptedAt, IsSaved, IsShownIn, IsUnaccepted}
 
 -- bytes are no reply and one
 pub not_both : (bytes : List ℕ) (fault : ReplyFault) → IsReply bytes → IsNoReply bytes fault → ⊥
@@ -43,12 +42,12 @@ module _ (hash : List ℕ → List ℕ) (scheme : Scheme) (entry : Entry) (name 
       (subst (λ (x : List ℕ). Answers hash scheme entry name (vrf_part bytes) x answer) (sym is_p) accepted.answers)
 
   -- a reply whose parts are accepted is
-  pub saved_parts : (saved : Saved) → IsReply bytes → (entry_from e).body ≡ entry.body → IsVerified hash scheme entry name v p saved → IsSaved hash scheme entry name bytes saved
+  pub saved_parts : (saved : Saved) → IsReply bytes → (entry_from e).body ≡ entry.body → AnswersBy hash scheme entry name v p saved → IsSaved hash scheme entry name bytes saved
   saved_parts saved whole same verified = record {
     whole = whole;
     same = sym body_is ∙ same;
-    verified = subst (λ (x : List ℕ). IsVerified hash scheme entry name x (proof_part bytes) saved) is_v
-        (subst (λ (x : List ℕ). IsVerified hash scheme entry name v x saved) is_p verified);
+    verified = subst (λ (x : List ℕ). AnswersBy hash scheme entry name x (proof_part bytes) saved) is_v
+        (subst (λ (x : List ℕ). AnswersBy hash scheme entry name v x saved) is_p verified);
   }
 
   -- one whose parts are refused is refused
@@ -65,9 +64,3 @@ pub moved : (hash : List ℕ → List ℕ) (e f : Entry) (i j : Index) (name : L
 moved hash e f i j name saved body index accepted =
     subst (λ (x : Index). IsAcceptedAt hash e x name saved) (sym index)
     (subst (λ (b : Body). IsAcceptedAt hash (record { body = b; signature = e.signature }) j name saved) (sym body) accepted)
-
--- at the index of a VRF proof the bytes of a proof show what both show together
-pub shows_at : (hash : List ℕ → List ℕ) (scheme : Scheme) (entry : Entry) (name vrf bytes index : List ℕ) (answer : Option (List ℕ))
-    → scheme name vrf ≡ Some index → Answers hash scheme entry name vrf bytes answer → Shows hash entry index name bytes answer
-shows_at hash scheme entry name vrf bytes index answer is answers =
-    subst (λ (i : List ℕ). Shows hash entry i name bytes answer) (same_Some answers.0 index (sym answers.1 ∙ is)) answers.2

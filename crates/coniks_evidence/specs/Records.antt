@@ -3,7 +3,6 @@ use Rattle.std.specs.Prelude.{◌≡◌, ◌≢◌, ◌⊎◌, ◌≤◌, ℕ, s
 use Rattle.coniks_proof.specs.Hashing.{hashing}
 use Rattle.coniks_proof.specs.Octets.{Octets}
 use Rattle.coniks_proof.specs.Proofs.{Accepts, stated}
-use Rattle.coniks_proof.specs.Wire.{IsWire}
 use Rattle.coniks_proof.specs.declared.values.Head.{Head}
 use Rattle.coniks_proof.specs.declared.values.Index.{Index}
 use Rattle.coniks_proof.specs.declared.paths.Answer.{Answer}
@@ -13,16 +12,16 @@ use Rattle.coniks_chain.specs.declared.entry.Entry.{Entry}
 use Rattle.coniks_client.specs.Changes.{expected, wanted}
 use Rattle.coniks_client.specs.Comparing.{HasHead}
 use Rattle.coniks_client.specs.StoredEntry.{IsChain, entry_in, epoch_in}
-use Rattle.coniks_client.specs.Lookups.{Answers, AnswersNone, IsUnknown, body_part}
+use Rattle.coniks_client.specs.Lookups.{Answers, AnswersBy, AnswersNone, IsUnknown, body_part}
 use Rattle.coniks_client.specs.Owner.{Scheme}
 use Rattle.coniks_client.specs.Replies.{IsNoReply, IsReply, proof_part, vrf_part}
 use Rattle.coniks_client.specs.declared.stored.StoredEntry.{StoredEntry}
 use Rattle.coniks_client.specs.declared.lookups.LookupFault.{LookupFault}
 use Rattle.coniks_client.specs.declared.lookups.LookupFault.TheVariants.{NoReply, UnknownEpoch, OtherEpoch}
+use Rattle.coniks_client.specs.declared.lookups.Saved.{Saved}
 use Rattle.coniks_client.specs.declared.replies.ReplyFault.{ReplyFault}
 use Rattle.coniks_evidence.specs.declared.records.OwnerRecord.{OwnerRecord}
 use Rattle.coniks_evidence.specs.declared.records.ContactRecord.{ContactRecord}
-use Rattle.coniks_evidence.specs.declared.replies.Saved.{Saved}
 use Rattle.coniks_evidence.specs.declared.replies.FoundReply.{FoundReply}
 
 -- a reply is accepted under an entry: it has the entry's body, and its proofs show this answer of the name
@@ -30,17 +29,6 @@ pub record IsAccepted (hash : Octets → Octets) (scheme : Scheme) (entry : Entr
   pub whole : IsReply bytes
   pub same : body_part bytes ≡ entry.body
   pub answers : Answers hash scheme entry name (vrf_part bytes) (proof_part bytes) answer
-
--- the bytes are this proof, which is accepted under an entry with this answer
-pub record IsShown (hash : Octets → Octets) (entry : Entry) (index name bytes : Octets) (proof : Proof) (answer : Answer) : Type 0 where
-  pub wire : IsWire bytes proof
-  pub accepted : Accepts (hashing hash entry.body.nonce.0) entry.body.root.0 index name proof (stated answer)
-
--- these are the VRF proof and the proof in a reply, with the index and the answer that they are accepted with
-pub record IsVerified (hash : Octets → Octets) (scheme : Scheme) (entry : Entry) (name vrf bytes : Octets) (saved : Saved) : Type 0 where
-  pub vrf_is : saved.vrf.now ≡ vrf
-  pub indexed : scheme name vrf ≡ Some saved.index.0
-  pub shown : IsShown hash entry saved.index.0 name bytes saved.proof saved.answer
 
 -- a saved proof is accepted under an entry, at this index, with its answer
 abbrev pub IsAcceptedAt : (Octets → Octets) → Entry → Index → Octets → Saved → Type 0
@@ -50,7 +38,7 @@ IsAcceptedAt hash entry index name saved = Accepts (hashing hash entry.body.nonc
 pub record IsSaved (hash : Octets → Octets) (scheme : Scheme) (entry : Entry) (name bytes : Octets) (saved : Saved) : Type 0 where
   pub whole : IsReply bytes
   pub same : body_part bytes ≡ entry.body
-  pub verified : IsVerified hash scheme entry name (vrf_part bytes) (proof_part bytes) saved
+  pub verified : AnswersBy hash scheme entry name (vrf_part bytes) (proof_part bytes) saved
 
 -- why the parts of a reply are not accepted under an entry, the first of these: the body, the proofs
 abbrev pub IsUnaccepted : (Octets → Octets) → Scheme → Entry → Octets → Body → Octets → Octets → LookupFault → Type 0

@@ -20,8 +20,9 @@ use crate::parting::parted;
 use crate::paths::Path;
 use crate::preimages::{Colliding, Preimage};
 use crate::records::{ContactRecord, OwnerRecord, place_of, up_to};
-use crate::replies::{FoundReply, ReplyVerifier, Saved, found_at};
+use crate::replies::{FoundReply, ReplyVerifier, found_at};
 use coniks_chain::Entry;
+use coniks_client::lookups::Saved;
 use coniks_client::{IndexScheme, StoredEntry, settle};
 use coniks_proof::{Answer, Hash32, Head, ProofRef, same_answer};
 
