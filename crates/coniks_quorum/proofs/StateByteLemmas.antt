@@ -8,7 +8,8 @@ use Rattle.coniks_quorum.specs.declared.alarms.Alarm.{Alarm}
 use Rattle.coniks_quorum.specs.StateForms.{IsAlarm, IsStored, IsMark}
 use Rattle.coniks_quorum.specs.StateReading.{BeginsWithChange}
 use Rattle.coniks_quorum.specs.Saved.{SavedChange, alarm_bytes, alarm_from, stored_bytes, stored_from, key_bytes, mark_bytes, mark_from}
-use Rattle.coniks_quorum.proofs.StateCodeLemmas.{AreOctets, IsCode, same_tail, split_same, take-small}
+use Rattle.coniks_quorum.specs.StateCodes.{AreOctets, IsCode}
+use Rattle.coniks_quorum.proofs.StateCodeLemmas.{same_tail, split_same, take-small}
 
 -- ---- cutting
 

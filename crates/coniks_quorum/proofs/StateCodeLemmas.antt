@@ -1,14 +1,12 @@
 -- Parts of one size, one after another.
-use Rattle.std.proofs.Common.{◌≡◌, ◌<◌, ◌≤◌, ℕ, zero, suc, ◌+◌, ◌*◌, List, [], ◌∷◌, ◌++◌, length, take, drop, map, get_or, refl, sym, ap, ◌∙◌, arith, append_assoc, suc-mul, zero-mul}
+use Rattle.std.proofs.Common.{◌≡◌, ◌≤◌, ℕ, zero, suc, ◌+◌, ◌*◌, List, [], ◌∷◌, ◌++◌, length, take, drop, map, refl, sym, ap, ◌∙◌, arith, append_assoc, suc-mul, zero-mul}
 use Rattle.std.specs.List.{All, flat_map}
 use Rattle.std.specs.Simd.{first_chunks}
 use Rattle.std.proofs.lemmas.List.{get_or-drop, length-append, length-drop, length-take-le, take-append-drop}
+use Rattle.coniks_quorum.specs.StateCodes.{AreOctets, IsCode}
 use Rattle.std.proofs.lemmas.List.Elements.{All-cons, All-head, All-nil, All-tail}
 
 -- ---- bytes
-
-abbrev pub AreOctets : List ℕ → Type 0
-AreOctets bytes = (i : ℕ) → get_or bytes i 0 < 256
 
 -- the first n of bytes are bytes, and so are the others
 pub take-small : (n : ℕ) (xs : List ℕ) → AreOctets xs → AreOctets (take n xs)
@@ -36,13 +34,6 @@ split_same (x ∷ a) (y ∷ b) c d size same =
     (ap (λ z. z ∷ a) parts.0 ∙ ap (λ zs. y ∷ zs) rest.0, rest.1)
 
 -- ---- parts of one size
-
--- elements whose bytes have one size, what such bytes are read as, and what is known of these elements
-pub record IsCode {X : Type 0} (one_bytes : X → List ℕ) (one_from : List ℕ → X) (IsPart : X → Type 0) (one : ℕ) : Type 0 where
-  pub long : (x : X) → IsPart x → length (one_bytes x) ≡ one
-  pub back : (bytes : List ℕ) → length bytes ≡ one → AreOctets bytes → one_bytes (one_from bytes) ≡ bytes
-  pub is : (bytes : List ℕ) → length bytes ≡ one → AreOctets bytes → IsPart (one_from bytes)
-  pub same : (a b : X) → IsPart a → IsPart b → one_bytes a ≡ one_bytes b → a ≡ b
 
 pub length-first_chunks : (one k : ℕ) (ys : List ℕ) → length (first_chunks one k ys) ≡ k
 length-first_chunks one zero ys = refl

@@ -3,14 +3,16 @@ use Rattle.std.proofs.Common.{◌≡◌, ◌<◌, ℕ, ◌+◌, ◌*◌, ◌/◌
 use Rattle.std.specs.Int.{w32, to_be_bytes}
 use Rattle.std.specs.List.{All, flat_map}
 use Rattle.std.specs.Simd.{first_chunks}
+use Rattle.std.proofs.lemmas.Nat.{div-mul-add}
 use Rattle.std.proofs.lemmas.List.{length-append, length-map, take_at}
 use Rattle.coniks_client.specs.declared.stored.StoredEntry.{StoredEntry}
 use Rattle.coniks_quorum.specs.declared.alarms.Alarm.{Alarm}
 use Rattle.coniks_quorum.specs.StateForms.{IsAlarm, IsStored, IsMark}
 use Rattle.coniks_quorum.specs.StateReading.{BeginsWithCount, BeginsWithFront, BeginsWithParts}
 use Rattle.coniks_quorum.specs.Saved.{alarm_bytes, alarm_from, counted_bytes, front_bytes, stored_bytes, stored_from, mark_bytes, mark_from}
+use Rattle.coniks_quorum.specs.StateCodes.{AreOctets, IsCode}
 use Rattle.coniks_quorum.proofs.StateByteLemmas.{alarm_code, count_same, stored_code, mark_code}
-use Rattle.coniks_quorum.proofs.StateCodeLemmas.{AreOctets, IsCode, all_same, chunks-bytes, chunks-sized, drop-small, length-all, length-first_chunks, split_same, take-small}
+use Rattle.coniks_quorum.proofs.StateCodeLemmas.{all_same, chunks-bytes, chunks-sized, drop-small, length-all, length-first_chunks, split_same, take-small}
 
 module _ {X : Type 0} (one_bytes : X → List ℕ) (one_from : List ℕ → X) (IsPart : X → Type 0) (one : ℕ) (code : IsCode one_bytes one_from IsPart one) where
   -- the parts that bytes begin with
@@ -45,6 +47,10 @@ module _ {X : Type 0} (one_bytes : X → List ℕ) (one_from : List ℕ → X) (
       let counts = count_same (length ms) (length ns) (flat_map one_bytes ms ++ xs) (flat_map one_bytes ns ++ ys) begins.counted.few begins'.counted.few
       (sym begins.same ∙ begins'.same) in
       all_same one_bytes one_from IsPart one code ms ns xs ys begins.counted.sized begins'.counted.sized counts.0 counts.1
+
+-- this many parts of one size have this many times their size
+pub count-parts : (n one m : ℕ) → 0 < one → m ≡ n * one → m / one ≡ n
+count-parts n one m some size = let whole : m ≡ n * one + 0 = omega (arith, size) in ap (λ k. k / one) whole ∙ div-mul-add n one 0 some
 
 -- a part of bytes is bytes
 pub part-small : (one : ℕ) (bytes : List ℕ) (n : ℕ) (part after : List ℕ) → AreOctets bytes → BeginsWithCount one bytes n part after → AreOctets part

@@ -144,3 +144,7 @@ pub sum-size : (state : SavedState) (front watch sum : ℕ) → length state.pol
     → front ≡ length (front_bytes state.stored state.alarms state.trust state.marks) → watch ≡ length (watch_bytes state.watch)
     → sum ≡ front + watch → sum + 65 ≡ size_of state
 sum-size state front watch sum size front_is watch_is sum_is = let body = length-body state size in omega arith
+
+-- a part that bytes do not begin with
+pub at_none : {A : Type 0} (r : Option A) (P : Type 0) → r ≡ None → P → IfNone r P
+at_none r P is p = subst (λ r. IfNone r P) (sym is) p

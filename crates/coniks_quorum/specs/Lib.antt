@@ -11,6 +11,7 @@ pub mod Restoring
 pub mod Saved
 pub mod Says
 pub mod Sights
+pub mod StateCodes
 pub mod StateForms
 pub mod StateLaws
 pub mod StateReading

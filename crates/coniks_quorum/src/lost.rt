@@ -52,12 +52,7 @@ fn epoch_after(stored: &[StoredEntry], place: usize) -> Option<u64>
 }
 
 /// Returns whether the stored epoch of a place is lost, if it is missing.
-pub(crate) fn lost_at(
-    present: &Present,
-    promise: &Promise,
-    stored: &[StoredEntry],
-    place: usize,
-) -> bool
+pub fn lost_at(present: &Present, promise: &Promise, stored: &[StoredEntry], place: usize) -> bool
     requires { place < length stored.now }
     ensures { result ≡ lost_at present.now promise.now stored.now place }
 {

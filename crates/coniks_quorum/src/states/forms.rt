@@ -22,32 +22,47 @@ fn part<const N: usize>(bytes: &[u8]) -> [u8; N]
     array
 }
 
-/// Returns the stored epoch that 218 bytes are.
-pub(crate) fn stored_from(bytes: &[u8; STORED_BYTES]) -> StoredEntry
-    ensures { result ≡ stored_from bytes.now }
-{
-    StoredEntry {
-        entry: part(&bytes[..ENTRY_BYTES]),
-        first_seen: part(&bytes[ENTRY_BYTES..STORED_BYTES - 1]),
-        seen: bytes[STORED_BYTES - 1],
+/// A part of a state that `N` bytes are: a stored epoch, an alarm, or a mark.
+pub(crate) trait FromBytes<const N: usize>: Copy {
+    ghost use Rattle.coniks_proof.specs.Octets.{Octets};
+
+    /// The part that bytes are.
+    ghost one_from: { Octets → Self };
+
+    /// Returns the part that bytes are.
+    fn from_bytes(bytes: &[u8; N]) -> Self
+        ensures { result ≡ one_from bytes.now };
+}
+
+impl FromBytes<STORED_BYTES> for StoredEntry {
+    ghost one_from = { stored_from };
+
+    fn from_bytes(bytes: &[u8; STORED_BYTES]) -> StoredEntry {
+        StoredEntry {
+            entry: part(&bytes[..ENTRY_BYTES]),
+            first_seen: part(&bytes[ENTRY_BYTES..STORED_BYTES - 1]),
+            seen: bytes[STORED_BYTES - 1],
+        }
     }
 }
 
-/// Returns the alarm that 9 bytes are.
-pub(crate) fn alarm_from(bytes: &[u8; ALARM_BYTES]) -> Alarm
-    ensures { result ≡ alarm_from bytes.now }
-{
-    Alarm {
-        epoch: u64::from_be_bytes(part(&bytes[..MARK_BYTES])),
-        seen: bytes[MARK_BYTES],
+impl FromBytes<ALARM_BYTES> for Alarm {
+    ghost one_from = { alarm_from };
+
+    fn from_bytes(bytes: &[u8; ALARM_BYTES]) -> Alarm {
+        Alarm {
+            epoch: u64::from_be_bytes(part(&bytes[..MARK_BYTES])),
+            seen: bytes[MARK_BYTES],
+        }
     }
 }
 
-/// Returns the mark that 8 bytes are.
-pub(crate) fn mark_from(bytes: &[u8; MARK_BYTES]) -> u64
-    ensures { result ≡ mark_from bytes.now }
-{
-    u64::from_be_bytes(*bytes)
+impl FromBytes<MARK_BYTES> for u64 {
+    ghost one_from = { mark_from };
+
+    fn from_bytes(bytes: &[u8; MARK_BYTES]) -> u64 {
+        u64::from_be_bytes(*bytes)
+    }
 }
 
 /// Returns whether an epoch is not strictly inside the window of a change.
@@ -61,7 +76,7 @@ fn is_outside(epoch: u64, change: &Change<'_>) -> bool
 fn is_clear_at(bytes: &[u8; STORED_BYTES], change: &Change<'_>) -> bool
     ensures { IsTrue result ↔ IsClearAt (saved_change change.now) (stored_from bytes.now) }
 {
-    let mine = stored_from(bytes);
+    let mine = StoredEntry::from_bytes(bytes);
     mine.seen != SAME || is_outside(mine.epoch(), change)
 }
 
@@ -88,7 +103,7 @@ fn is_seen(number: u8) -> bool
 fn fits(bytes: &[u8; STORED_BYTES], since: Option<u64>) -> bool
     ensures { IsTrue result ↔ Fits since (stored_from bytes.now) }
 {
-    let mine = stored_from(bytes);
+    let mine = StoredEntry::from_bytes(bytes);
     match since {
         None => mine.seen == UNWATCHED,
         Some(since) => {
@@ -124,7 +139,7 @@ fn is_alarming(number: u8) -> bool
 fn alarm_fits(bytes: &[u8; ALARM_BYTES], since: Option<u64>) -> bool
     ensures { IsTrue result ↔ AlarmFits since (alarm_from bytes.now) }
 {
-    let alarm = alarm_from(bytes);
+    let alarm = Alarm::from_bytes(bytes);
     match since {
         None => false,
         Some(since) => since <= alarm.epoch && is_alarming(alarm.seen),

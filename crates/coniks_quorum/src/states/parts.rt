@@ -5,11 +5,15 @@ ghost use Rattle.std.specs.Int.{to_be_bytes, w32, w64};
 ghost use Rattle.coniks_client.specs.declared.stored.StoredEntry.{StoredEntry as StoredOne};
 ghost use Rattle.coniks_proof.specs.Octets.{Octets};
 ghost use Rattle.coniks_quorum.specs.declared.alarms.Alarm.{Alarm as AlarmOne};
-ghost use Rattle.coniks_quorum.specs.StateForms.{IsAlarm, IsStored, IsMark};
+ghost use Rattle.coniks_quorum.specs.StateCodes.{IsCode};
 ghost use Rattle.coniks_quorum.specs.StateReading.{BeginsWithChange, BeginsWithCount, BeginsWithFront, BeginsWithKey, BeginsWithName, BeginsWithParts};
-ghost use Rattle.coniks_quorum.specs.Saved.{SavedChange, alarm_bytes, alarm_from, stored_bytes, stored_from, mark_bytes, mark_from, saved_change};
+ghost use Rattle.coniks_quorum.specs.Saved.{SavedChange, alarm_from, stored_from, mark_from, saved_change};
 
+use crate::alarms::Alarm;
+use crate::states::forms::FromBytes;
+use crate::states::writing::Part;
 use coniks_client::changes::Change;
+use coniks_client::stored::StoredEntry;
 
 /// The number of bytes of a stored epoch.
 pub const STORED_BYTES: usize = 218;
@@ -75,48 +79,25 @@ pub(crate) fn split_change(bytes: &[u8]) -> Option<(Change<'_>, &[u8])>
 }
 
 /// Returns the bytes of parts of one size that follow their number, and the bytes after them.
-fn split_parts(bytes: &[u8], one: usize) -> Option<(&[u8], &[u8])>
+fn split_counted(bytes: &[u8], one: usize) -> Option<(&[u8], &[u8])>
     requires { one < 256 }
     ensures some { IfSome result (λ parts. (count : ℕ) × BeginsWithCount one bytes.now count parts.0.now parts.1.now) }
     ensures none { IfNone result ((count : ℕ) (parts rest : Octets) → ¬ BeginsWithCount one bytes.now count parts rest) }
 {
-    let Some((count, rest)) = split_count(bytes) else {
-        return None;
-    };
+    let (count, rest) = split_count(bytes)?;
     split_bytes(rest, count as usize * one)
 }
 
-/// Returns the stored epochs that bytes begin with, and the bytes after them.
-fn split_stored(bytes: &[u8]) -> Option<(&[[u8; STORED_BYTES]], &[u8])>
-    ensures some { IfSome result (λ parts. BeginsWithParts stored_bytes IsStored bytes.now (map stored_from parts.0.now) parts.1.now) }
-    ensures none { IfNone result ((stored : List StoredOne) (rest : Octets) → ¬ BeginsWithParts stored_bytes IsStored bytes.now stored rest) }
+/// Returns the parts of one size that bytes begin with, each as `N` bytes, and the bytes after them.
+fn split_parts<const N: usize, P: Part + FromBytes<N>>(bytes: &[u8]) -> Option<(&[[u8; N]], &[u8])>
+    requires code { IsCode P.one_bytes P.one_from P.is_part N }
+    requires some { 0 < N }
+    requires small { N < 256 }
+    ensures some { IfSome result (λ parts. BeginsWithParts P.one_bytes P.is_part bytes.now (map P.one_from parts.0.now) parts.1.now) }
+    ensures none { IfNone result ((parts : List P) (rest : Octets) → ¬ BeginsWithParts P.one_bytes P.is_part bytes.now parts rest) }
 {
-    let Some((parts, rest)) = split_parts(bytes, STORED_BYTES) else {
-        return None;
-    };
-    Some((parts.as_chunks::<STORED_BYTES>().0, rest))
-}
-
-/// Returns the alarms that bytes begin with, and the bytes after them.
-fn split_alarms(bytes: &[u8]) -> Option<(&[[u8; ALARM_BYTES]], &[u8])>
-    ensures some { IfSome result (λ parts. BeginsWithParts alarm_bytes IsAlarm bytes.now (map alarm_from parts.0.now) parts.1.now) }
-    ensures none { IfNone result ((alarms : List AlarmOne) (rest : Octets) → ¬ BeginsWithParts alarm_bytes IsAlarm bytes.now alarms rest) }
-{
-    let Some((parts, rest)) = split_parts(bytes, ALARM_BYTES) else {
-        return None;
-    };
-    Some((parts.as_chunks::<ALARM_BYTES>().0, rest))
-}
-
-/// Returns the marks that bytes begin with, and the bytes after them.
-fn split_marks(bytes: &[u8]) -> Option<(&[[u8; MARK_BYTES]], &[u8])>
-    ensures some { IfSome result (λ parts. BeginsWithParts mark_bytes IsMark bytes.now (map mark_from parts.0.now) parts.1.now) }
-    ensures none { IfNone result ((marks : List ℕ) (rest : Octets) → ¬ BeginsWithParts mark_bytes IsMark bytes.now marks rest) }
-{
-    let Some((parts, rest)) = split_parts(bytes, MARK_BYTES) else {
-        return None;
-    };
-    Some((parts.as_chunks::<MARK_BYTES>().0, rest))
+    let (parts, rest) = split_counted(bytes, N)?;
+    Some((parts.as_chunks::<N>().0, rest))
 }
 
 /// Returns the hash of a trust document that bytes begin with, and the bytes after it.
@@ -145,18 +126,10 @@ pub(crate) fn split_front(bytes: &[u8]) -> Option<(Front<'_>, &[u8])>
     ensures none { IfNone result ((stored : List StoredOne) (alarms : List AlarmOne) (trust : Octets) (marks : List ℕ) (rest : Octets)
         → ¬ BeginsWithFront bytes.now stored alarms trust marks rest) }
 {
-    let Some((stored, rest)) = split_stored(bytes) else {
-        return None;
-    };
-    let Some((alarms, rest)) = split_alarms(rest) else {
-        return None;
-    };
-    let Some((trust, rest)) = split_trust(rest) else {
-        return None;
-    };
-    let Some((marks, rest)) = split_marks(rest) else {
-        return None;
-    };
+    let (stored, rest) = split_parts::<STORED_BYTES, StoredEntry>(bytes)?;
+    let (alarms, rest) = split_parts::<ALARM_BYTES, Alarm>(rest)?;
+    let (trust, rest) = split_trust(rest)?;
+    let (marks, rest) = split_parts::<MARK_BYTES, u64>(rest)?;
     let front = Front {
         stored,
         alarms,
@@ -182,9 +155,7 @@ fn split_name(bytes: &[u8]) -> Option<(&[u8], &[u8])>
     ensures short { IfSome result (λ parts. length parts.0.now < 256) }
     ensures none { IfNone result ((name rest : Octets) → 0 < length name → bytes.now ≡ length name ∷ name ++ rest → ⊥) }
 {
-    let Some((size, rest)) = bytes.split_first() else {
-        return None;
-    };
+    let (size, rest) = bytes.split_first()?;
     if *size == 0 {
         return None;
     }
@@ -196,18 +167,10 @@ pub(crate) fn split_named(bytes: &[u8]) -> Option<(Named<'_>, &[u8])>
     ensures some { IfSome result (λ parts. BeginsWithName bytes.now parts.0.name.now parts.0.since parts.0.key.now parts.0.count parts.1.now) }
     ensures none { IfNone result ((name : Octets) (since : ℕ) (key : Octets) (count : ℕ) (rest : Octets) → ¬ BeginsWithName bytes.now name since key count rest) }
 {
-    let Some((name, rest)) = split_name(bytes) else {
-        return None;
-    };
-    let Some((since, rest)) = split_number(rest) else {
-        return None;
-    };
-    let Some((key, rest)) = split_key(rest) else {
-        return None;
-    };
-    let Some((count, rest)) = split_count(rest) else {
-        return None;
-    };
+    let (name, rest) = split_name(bytes)?;
+    let (since, rest) = split_number(rest)?;
+    let (key, rest) = split_key(rest)?;
+    let (count, rest) = split_count(rest)?;
     let named = Named {
         name,
         since,

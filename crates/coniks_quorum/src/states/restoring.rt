@@ -8,7 +8,7 @@ ghost use Rattle.coniks_client.specs.declared.stored.StoredEntry.{StoredEntry as
 ghost use Rattle.coniks_quorum.specs.Restoring.{AreVerified, IsFirstBad, IsGoodAt};
 ghost use Rattle.coniks_quorum.specs.Saved.{stored_from};
 
-use crate::states::forms::stored_from;
+use crate::states::forms::FromBytes;
 use crate::states::parts::STORED_BYTES;
 use crate::states::state::State;
 use coniks_chain::{Auditor, BODY_BYTES, Entry, Signature, Verify, auditor_after};
@@ -42,7 +42,7 @@ fn own_entry<V: Verify>(policy: &[u8; 32], bytes: &[u8; STORED_BYTES], verify: &
     ensures some { IfSome result (λ entry. IsVerified (V.verdict_of verify.now) policy.now (stored_from bytes.now).entry) }
     ensures none { IfNone result (¬ IsVerified (V.verdict_of verify.now) policy.now (stored_from bytes.now).entry) }
 {
-    let mine = stored_from(bytes);
+    let mine = StoredEntry::from_bytes(bytes);
     match verified(policy, &[], &mine.entry, verify) {
         Ok(entry) => Some(entry),
         Err(_) => None,

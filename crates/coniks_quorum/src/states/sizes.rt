@@ -104,12 +104,8 @@ fn watched_size(watch: &Watch<'_>, changes: &[Change<'_>]) -> Option<usize>
     ensures some { IfSome result (λ size. size ≡ length (watch_bytes (Some (saved_watch changes.now watch.now)))) }
     ensures none { IfNone result (2 ^ 64 ≤ length (watch_bytes (Some (saved_watch changes.now watch.now)))) }
 {
-    let Some(changes) = changes_size(changes) else {
-        return None;
-    };
-    let Some(size) = sum_of(changes, watch.name.len()) else {
-        return None;
-    };
+    let changes = changes_size(changes)?;
+    let size = sum_of(changes, watch.name.len())?;
     sum_of(size, WATCH_BYTES + watch.key.len())
 }
 
@@ -160,21 +156,11 @@ fn front_size(client: &Client<'_>) -> Option<usize>
 {
     known(client.stored);
     full(client.trust);
-    let Some(stored) = product_of(client.stored.len(), STORED_BYTES) else {
-        return None;
-    };
-    let Some(alarms) = product_of(client.alarms.len(), ALARM_BYTES) else {
-        return None;
-    };
-    let Some(marks) = product_of(client.marks.len(), MARK_BYTES) else {
-        return None;
-    };
-    let Some(two) = sum_of(stored, alarms) else {
-        return None;
-    };
-    let Some(all) = sum_of(two, marks) else {
-        return None;
-    };
+    let stored = product_of(client.stored.len(), STORED_BYTES)?;
+    let alarms = product_of(client.alarms.len(), ALARM_BYTES)?;
+    let marks = product_of(client.marks.len(), MARK_BYTES)?;
+    let two = sum_of(stored, alarms)?;
+    let all = sum_of(two, marks)?;
     sum_of(all, FRONT_BYTES)
 }
 
@@ -194,15 +180,9 @@ pub fn state_size(client: &Client<'_>) -> Option<usize>
     ensures some { IfSome result (λ size. size ≡ size_of (saved_state client.now)) }
     ensures none { IfNone result (2 ^ 64 ≤ size_of (saved_state client.now)) }
 {
-    let Some(front) = front_size(client) else {
-        return None;
-    };
-    let Some(watch) = watch_size(&client.watch, client.changes) else {
-        return None;
-    };
+    let front = front_size(client)?;
+    let watch = watch_size(&client.watch, client.changes)?;
     full(client.policy);
-    let Some(size) = sum_of(front, watch) else {
-        return None;
-    };
+    let size = sum_of(front, watch)?;
     sum_of(size, PLAIN_BYTES)
 }

@@ -6,7 +6,7 @@ ghost use Rattle.coniks_quorum.specs.StateForms.{IsSizedWatch};
 ghost use Rattle.coniks_quorum.specs.Saved.{SavedWatch, alarm_from, stored_from, mark_from, saved_change};
 
 use crate::alarms::Alarm;
-use crate::states::forms::{alarm_from, mark_from, stored_from};
+use crate::states::forms::FromBytes;
 use crate::states::parts::{ALARM_BYTES, MARK_BYTES, STORED_BYTES, split_change};
 use crate::states::reading::are_same;
 use coniks_client::changes::Change;
@@ -46,7 +46,7 @@ impl State<'_> {
         ensures { result ≡ slice_get (map stored_from self.now.stored.now) place }
     {
         if place < self.stored.len() {
-            Some(stored_from(&self.stored[place]))
+            Some(StoredEntry::from_bytes(&self.stored[place]))
         } else {
             None
         }
@@ -60,13 +60,7 @@ impl State<'_> {
         ensures count { IfSome result (λ count. count ≡ length self.now.stored.now) }
         ensures none { IfNone result (length out.old < length self.now.stored.now) }
     {
-        if out.len() < self.stored.len() {
-            return None;
-        }
-        for (place, bytes) in self.stored.iter().enumerate() {
-            out[place] = stored_from(bytes);
-        }
-        Some(self.stored.len())
+        copy_parts(self.stored, out)
     }
 
     /// Copies the alarms to the first places of a slice, and returns their number.
@@ -77,13 +71,7 @@ impl State<'_> {
         ensures count { IfSome result (λ count. count ≡ length self.now.alarms.now) }
         ensures none { IfNone result (length out.old < length self.now.alarms.now) }
     {
-        if out.len() < self.alarms.len() {
-            return None;
-        }
-        for (place, bytes) in self.alarms.iter().enumerate() {
-            out[place] = alarm_from(bytes);
-        }
-        Some(self.alarms.len())
+        copy_parts(self.alarms, out)
     }
 
     /// Writes the marks of a client that names a trust document, one for each of its auditors.
@@ -102,14 +90,36 @@ impl State<'_> {
     }
 }
 
+/// Copies parts to the first places of a slice.
+fn write_parts<const N: usize, P: FromBytes<N>>(parts: &[[u8; N]], out: &mut [P])
+    requires { length parts.now ≤ length out.old }
+    ensures written { take (length parts.now) out.new ≡ map P.one_from parts.now }
+    ensures size { length out.new ≡ length out.old }
+{
+    for (place, bytes) in parts.iter().enumerate() {
+        out[place] = P::from_bytes(bytes);
+    }
+}
+
+/// Copies parts to the first places of a slice, and returns their number, or `None` if the slice has fewer places.
+fn copy_parts<const N: usize, P: FromBytes<N>>(parts: &[[u8; N]], out: &mut [P]) -> Option<usize>
+    ensures some { IfSome result (λ count. take count out.new ≡ map P.one_from parts.now) }
+    ensures count { IfSome result (λ count. count ≡ length parts.now) }
+    ensures none { IfNone result (length out.old < length parts.now) }
+{
+    if out.len() < parts.len() {
+        return None;
+    }
+    write_parts(parts, out);
+    Some(parts.len())
+}
+
 /// Copies marks to a slice of their number.
 fn copy_marks(marks: &[[u8; MARK_BYTES]], out: &mut [u64])
     requires { length marks.now ≡ length out.old }
     ensures { out.new ≡ map mark_from marks.now }
 {
-    for (place, bytes) in marks.iter().enumerate() {
-        out[place] = mark_from(bytes);
-    }
+    write_parts(marks, out);
 }
 
 /// Writes the change at a place.

@@ -58,9 +58,7 @@ fn put_key(out: &mut [u8], at: usize, key: &[u8]) -> Option<usize>
     requires short { length key.now < 2 ^ 32 }
     ensures { Puts out.old at (key_bytes key.now) out.new result }
 {
-    let Some(at) = put_count(out, at, key.len() as u32) else {
-        return None;
-    };
+    let at = put_count(out, at, key.len() as u32)?;
     put(out, at, key)
 }
 
@@ -70,12 +68,8 @@ fn put_change(out: &mut [u8], at: usize, change: &Change<'_>) -> Option<usize>
     requires sized { IsSizedChange (saved_change change.now) }
     ensures { Puts out.old at (change_bytes (saved_change change.now)) out.new result }
 {
-    let Some(at) = put_number(out, at, change.last_old) else {
-        return None;
-    };
-    let Some(at) = put_number(out, at, change.first_new) else {
-        return None;
-    };
+    let at = put_number(out, at, change.last_old)?;
+    let at = put_number(out, at, change.first_new)?;
     put_key(out, at, change.key)
 }
 
@@ -96,7 +90,7 @@ fn put_changes(out: &mut [u8], at: usize, changes: &[Change<'_>]) -> Option<usiz
 }
 
 /// A part of a state of which there are several of one size: a stored epoch, an alarm, or a mark.
-trait Part {
+pub(crate) trait Part {
     ghost use Rattle.coniks_proof.specs.Octets.{Octets};
 
     /// Its bytes.
@@ -118,12 +112,8 @@ impl Part for StoredEntry {
     ghost is_part = { IsStored };
 
     fn put(&self, out: &mut [u8], at: usize) -> Option<usize> {
-        let Some(at) = put(out, at, &self.entry) else {
-            return None;
-        };
-        let Some(at) = put(out, at, &self.first_seen) else {
-            return None;
-        };
+        let at = put(out, at, &self.entry)?;
+        let at = put(out, at, &self.first_seen)?;
         put_byte(out, at, self.seen)
     }
 }
@@ -134,9 +124,7 @@ impl Part for Alarm {
     ghost is_part = { IsAlarm };
 
     fn put(&self, out: &mut [u8], at: usize) -> Option<usize> {
-        let Some(at) = put_number(out, at, self.epoch) else {
-            return None;
-        };
+        let at = put_number(out, at, self.epoch)?;
         put_byte(out, at, self.seen)
     }
 }
@@ -173,15 +161,9 @@ fn put_named(out: &mut [u8], at: usize, watch: &Watch<'_>) -> Option<usize>
     requires sized { IsSizedName watch.now.name.now watch.now.since watch.now.key.now }
     ensures { Puts out.old at (watched_bytes watch.now.name.now watch.now.since watch.now.key.now) out.new result }
 {
-    let Some(at) = put_byte(out, at, watch.name.len() as u8) else {
-        return None;
-    };
-    let Some(at) = put(out, at, watch.name) else {
-        return None;
-    };
-    let Some(at) = put_number(out, at, watch.since) else {
-        return None;
-    };
+    let at = put_byte(out, at, watch.name.len() as u8)?;
+    let at = put(out, at, watch.name)?;
+    let at = put_number(out, at, watch.since)?;
     put_key(out, at, watch.key)
 }
 
@@ -196,15 +178,9 @@ fn put_watched(
     requires sized { IsSizedWatch (saved_watch changes.now watch.now) }
     ensures { Puts out.old at (watch_bytes (Some (saved_watch changes.now watch.now))) out.new result }
 {
-    let Some(at) = put_byte(out, at, WATCH) else {
-        return None;
-    };
-    let Some(at) = put_named(out, at, watch) else {
-        return None;
-    };
-    let Some(at) = put_count(out, at, changes.len() as u32) else {
-        return None;
-    };
+    let at = put_byte(out, at, WATCH)?;
+    let at = put_named(out, at, watch)?;
+    let at = put_count(out, at, changes.len() as u32)?;
     put_changes(out, at, changes)
 }
 
@@ -232,9 +208,7 @@ fn put_counted<P: Part>(out: &mut [u8], at: usize, parts: &[P]) -> Option<usize>
     ensures puts { Puts out.old at (counted_bytes P.one_bytes parts.now) out.new result }
     ensures sized { IfSome result (λ end. AreCounted P.is_part parts.now) }
 {
-    let Some(at) = put_count(out, at, parts.len() as u32) else {
-        return None;
-    };
+    let at = put_count(out, at, parts.len() as u32)?;
     put_all(out, at, parts)
 }
 
@@ -248,16 +222,10 @@ fn put_front(out: &mut [u8], at: usize, client: &Client<'_>) -> Option<usize>
     ensures trust { IfSome result (λ end. length client.now.trust.now ≡ 32) }
     ensures marks { IfSome result (λ end. AreCounted IsMark client.now.marks.now) }
 {
-    let Some(at) = put_counted(out, at, client.stored) else {
-        return None;
-    };
-    let Some(at) = put_counted(out, at, client.alarms) else {
-        return None;
-    };
+    let at = put_counted(out, at, client.stored)?;
+    let at = put_counted(out, at, client.alarms)?;
     let trust = client.trust;
-    let Some(at) = put(out, at, trust) else {
-        return None;
-    };
+    let at = put(out, at, trust)?;
     put_counted(out, at, client.marks)
 }
 
@@ -267,16 +235,10 @@ fn put_body(out: &mut [u8], client: &Client<'_>) -> Option<usize>
     ensures puts { Puts out.old 0 (body_bytes (saved_state client.now)) out.new result }
     ensures sized { IfSome result (λ end. IsSized (saved_state client.now)) }
 {
-    let Some(at) = put_byte(out, 0, STATE_VERSION) else {
-        return None;
-    };
+    let at = put_byte(out, 0, STATE_VERSION)?;
     let policy = client.policy;
-    let Some(at) = put(out, at, policy) else {
-        return None;
-    };
-    let Some(at) = put_front(out, at, client) else {
-        return None;
-    };
+    let at = put(out, at, policy)?;
+    let at = put_front(out, at, client)?;
     put_watch(out, at, &client.watch, client.changes)
 }
 
@@ -293,9 +255,7 @@ pub fn write<H: Hash32>(h: &H, client: &Client<'_>, out: &mut [u8]) -> Option<us
     // So `read` reads them back, if the client's numbers and changes have the right form.
     ensures some { IfSome result (λ size. AreBytesOf (H.digest_of h.now) (saved_state client.now) (take size out.new)) }
 {
-    let Some(at) = put_body(out, client) else {
-        return None;
-    };
+    let at = put_body(out, client)?;
     let digest = hash_of(h, &out[..at]);
     put(out, at, &digest.0)
 }

@@ -1,13 +1,18 @@
 use Rattle.coniks_quorum.proofs.StateNameLemmas.{name-no_count, name-no_key}
+use Rattle.coniks_quorum.proofs.StateLemmas.{at_none}
 use Rattle.coniks_quorum.proofs.states.parts.split_named.Goals as goal
 
-pub returns-in_default-split_key-clause-none : goal.returns-in_default-split_key-clause-none
-returns-in_default-split_key-clause-none c =
-    name-no_key c.args.bytes.now c.in-Some.name.now c.in-Some.rest.now c.in-Some-split_number.rest.now c.in-Some-split_number.since c.in-Some.ensures.whole
-    c.in-Some-split_number.ensures.whole c.in-Some-split_number.ensures.small c.in_default-split_key.ensures.none
+pub returns-in_err-key-clause-none : goal.returns-in_err-key-clause-none
+returns-in_err-key-clause-none c =
+    at_none c.from_residual-in_err-key.result _ c.from_residual-in_err-key.ensures (
+    name-no_key c.args.bytes.now c.in_ok-name.name.now c.in_ok-name.rest.now c.in_ok-since.rest.now c.in_ok-since.since c.in_ok-name.ensures.whole
+    c.in_ok-since.ensures.whole c.in_ok-since.ensures.small c.in_err-key.ensures.none
+    )
 
-pub returns-in_default-split_count-clause-none : goal.returns-in_default-split_count-clause-none
-returns-in_default-split_count-clause-none c =
-    name-no_count c.args.bytes.now c.in-Some.name.now c.in-Some.rest.now c.in-Some-split_number.rest.now c.in-Some-split_number.since c.in-Some.ensures.whole
-    c.in-Some-split_number.ensures.whole c.in-Some-split_number.ensures.small c.in-Some-split_key.key.now c.in-Some-split_key.rest.now c.in-Some-split_key.ensures.some
-    c.in_default-split_count.ensures.cut
+pub returns-in_err-count-clause-none : goal.returns-in_err-count-clause-none
+returns-in_err-count-clause-none c =
+    at_none c.from_residual-in_err-count.result _ c.from_residual-in_err-count.ensures (
+    name-no_count c.args.bytes.now c.in_ok-name.name.now c.in_ok-name.rest.now c.in_ok-since.rest.now c.in_ok-since.since c.in_ok-name.ensures.whole
+    c.in_ok-since.ensures.whole c.in_ok-since.ensures.small c.in_ok-key.key.now c.in_ok-key.rest.now c.in_ok-key.ensures.some
+    c.in_err-count.ensures.cut
+    )

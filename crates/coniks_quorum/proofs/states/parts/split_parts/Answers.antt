@@ -1,17 +1,17 @@
-use Rattle.std.proofs.Common.{arith}
-use Rattle.coniks_quorum.specs.StateForms.{IsStored}
-use Rattle.coniks_quorum.specs.Saved.{stored_bytes, stored_from}
-use Rattle.coniks_quorum.proofs.StateByteLemmas.{stored_code}
-use Rattle.coniks_quorum.proofs.StateFrontLemmas.{part-small, parts-none, parts_whole}
-use Rattle.coniks_quorum.proofs.states.parts.split_stored.Goals as goal
+use Rattle.coniks_quorum.proofs.StateFrontLemmas.{count-parts, part-small, parts-none, parts_whole}
+use Rattle.coniks_quorum.proofs.StateLemmas.{at_none}
+use Rattle.coniks_quorum.proofs.states.parts.split_parts.Goals as goal
 
-pub returns-in_default-clause-none : goal.returns-in_default-clause-none
-returns-in_default-clause-none c = parts-none stored_bytes stored_from IsStored 218 stored_code c.args.bytes.now c.in_default.ensures.none
+pub returns-in_err-parts-clause-none : goal.returns-in_err-parts-clause-none
+returns-in_err-parts-clause-none g c =
+    at_none c.from_residual.result _ c.from_residual.ensures (
+    parts-none g.P.Part.one_bytes g.P.FromBytes.one_from g.P.Part.is_part _ c.requires.code c.args.bytes.now c.in_err-parts.ensures.none
+    )
 
 pub returns-clause-some : goal.returns-clause-some
-returns-clause-some c =
-    let begins = c.in-Some.ensures.some in
-    let part = c.in-Some.parts.now in
-    let size = begins.1.size in
-    parts_whole stored_bytes stored_from IsStored 218 stored_code c.args.bytes.now part c.in-Some.rest.now begins.0 _
-    (part-small 218 c.args.bytes.now begins.0 part c.in-Some.rest.now (λ i. (c.type_inv.bytes i).fits) begins.1) begins.1 (omega arith) c.as_chunks.ensures.front
+returns-clause-some g c =
+    let begins = c.in_ok-parts.ensures.some in
+    let part = c.in_ok-parts.parts.now in
+    parts_whole g.P.Part.one_bytes g.P.FromBytes.one_from g.P.Part.is_part _ c.requires.code c.args.bytes.now part c.in_ok-parts.rest.now begins.0 _
+    (part-small _ c.args.bytes.now begins.0 part c.in_ok-parts.rest.now (λ i. (c.type_inv.bytes i).fits) begins.1) begins.1
+    (count-parts _ _ _ c.requires.some begins.1.size) c.as_chunks.ensures.front
