@@ -1,10 +1,10 @@
 //! A client's chain, entry by entry.
 
-ghost use Rattle.std.specs.Prelude.{◌≡◌, ◌≢◌, ◌↔◌, Bool, true, IfErr, IfNone, IfOk, IfSome, IsTrue, OnOk, Some, length};
+ghost use Rattle.std.specs.Prelude.{◌≡◌, ◌≢◌, ◌↔◌, true, IfErr, IfNone, IfOk, IfSome, IsTrue, OnOk, Some, length};
 ghost use Rattle.coniks_chain.specs.Chain.{Follows, IsFirstEntryFault};
 ghost use Rattle.coniks_chain.specs.Entries.{entry_from, entry_length};
 ghost use Rattle.coniks_chain.specs.Evidence.{IsWellFormed};
-ghost use Rattle.coniks_client.specs.Feeding.{ConvictsNone, Gives, IsConvicted, IsForeign, IsNotNext, IsNotSignedAgain, IsOwn, IsRefusedAlone, IsSigned, IsSignedAgain, IsUnsigned, IsVerified};
+ghost use Rattle.coniks_client.specs.Feeding.{Gives, IsConvicted, IsForeign, IsNotNext, IsNotSignedAgain, IsOwn, IsRefusedAlone, IsSigned, IsSignedAgain, IsUnsigned, IsVerified};
 ghost use Rattle.coniks_client.specs.StoredEntry.{entry_in, latest_in, verified_before};
 
 use crate::stored::{StoredEntry, latest};

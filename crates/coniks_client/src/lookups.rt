@@ -1,6 +1,6 @@
 //! A client's lookup.
 
-ghost use Rattle.std.specs.Prelude.{◌≡◌, ◌≢◌, ◌<◌, ◌+◌, ◌↔◌, ℕ, Any, IfErr, IfNone, IfOk, IfSome, IsOkAnd, IsTrue, OnOk, Option, Some, None, length, slice_get};
+ghost use Rattle.std.specs.Prelude.{◌≡◌, ◌≢◌, ◌<◌, ◌+◌, ◌↔◌, ℕ, IfErr, IfNone, IfOk, IfSome, IsOkAnd, IsTrue, OnOk, Option, Some, None, length, slice_get};
 ghost use Rattle.std.specs.Option.{option_map};
 ghost use Rattle.coniks_proof.specs.Octets.{Octets};
 ghost use Rattle.coniks_proof.specs.Proofs.{stated};

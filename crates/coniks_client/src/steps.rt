@@ -6,7 +6,7 @@ ghost use Rattle.coniks_client.specs.Feeding.{AreOwn, IsRefusedFeed};
 ghost use Rattle.coniks_client.specs.StoredEntry.{IsChain, entry_in, epoch_in};
 ghost use Rattle.coniks_client.specs.Changes.{wanted};
 ghost use Rattle.coniks_client.specs.Owner.{IsBacked, IsShown, IsWatched, Scheme};
-ghost use Rattle.coniks_client.specs.Steps.{AreMarked, IsAccepted, Marks, SaysSame, again_stored, given_changes, given_number, is_watched, stored_with, new_stored, new_number};
+ghost use Rattle.coniks_client.specs.Steps.{AreMarked, IsAccepted, Marks, again_stored, given_changes, given_number, is_watched, stored_with, new_stored, new_number};
 ghost use Rattle.coniks_client.specs.Lookups.{IsFound, IsNotFound};
 ghost use Rattle.coniks_client.specs.declared.changes.Change.{Change as ChangeOne};
 ghost use Rattle.coniks_client.specs.declared.stored.StoredEntry.{StoredEntry as StoredOne};

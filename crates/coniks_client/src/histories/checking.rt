@@ -1,6 +1,6 @@
 //! The steps of a history, checked under the stored epochs.
 
-ghost use Rattle.std.specs.Prelude.{◌≡◌, ◌<◌, ◌≤◌, IfErr, IfOk, OnOk, length};
+ghost use Rattle.std.specs.Prelude.{◌<◌, ◌≤◌, IfErr, IfOk, OnOk, length};
 ghost use Rattle.coniks_proof.specs.ProofRefs.{owned};
 ghost use Rattle.coniks_proof.specs.Proofs.{answer_of};
 ghost use Rattle.coniks_client.specs.HistoryChecking.{AreChecked, AreUnchecked, IsAcceptedUnder, IsRefusedUnder, NextPassesNot, Passes, PassesNot, answer_in};

@@ -1,7 +1,7 @@
 //! The bytes of a history as a whole.
 
-ghost use Rattle.std.specs.Prelude.{◌≡◌, ◌<◌, ◌≤◌, ℕ, List, Some, None, IfErr, IfOk, OnOk, length};
-ghost use Rattle.coniks_client.specs.Histories.{AreNoSteps, AreSteps, HasSteps, IsHistory, IsNoHistory, IsOpened, IsUnopened, steps_part, vrf_part};
+ghost use Rattle.std.specs.Prelude.{◌≡◌, ◌<◌, ◌≤◌, List, Some, None, IfErr, IfOk, OnOk, length};
+ghost use Rattle.coniks_client.specs.Histories.{AreNoSteps, HasSteps, IsHistory, IsNoHistory, IsOpened, IsUnopened, steps_part, vrf_part};
 ghost use Rattle.coniks_client.specs.HistorySteps.{EpochProof};
 
 use crate::histories::faults::HistoryFault;
@@ -120,14 +120,8 @@ pub fn read_history<'a>(
     ensures steps { IfOk result (λ history. history.steps.now ≡ steps_part bytes.now) }
     ensures err { IfErr result (λ fault. IsNoHistory bytes.now fault) }
 {
-    let parts = match history_parts(bytes) {
-        Ok(parts) => parts,
-        Err(fault) => return Err(fault),
-    };
-    let count = match read_steps(siblings, parts.steps) {
-        Ok(count) => count,
-        Err(fault) => return Err(fault),
-    };
+    let parts = history_parts(bytes)?;
+    let count = read_steps(siblings, parts.steps)?;
     Ok(History {
         vrf: parts.vrf,
         steps: parts.steps,

@@ -148,10 +148,7 @@ pub(crate) fn read_siblings<'a>(
     ensures ok { OnOk result (HasSiblings (take before.now.count siblings.old) n bytes.now) }
     ensures err { IfErr result (λ fault. HasNoSiblings (take before.now.count siblings.old) n bytes.now fault) }
 {
-    let sent = match split_siblings(&siblings[..before.count], n, bytes) {
-        Ok(sent) => sent,
-        Err(fault) => return Err(fault),
-    };
+    let sent = split_siblings(&siblings[..before.count], n, bytes)?;
     unpack(siblings, sent.map, n, sent.siblings);
     Ok(sent.rest)
 }

@@ -4,7 +4,7 @@ ghost use Rattle.std.specs.Prelude.{◌≡◌, ◌≢◌, ◌<◌, ◌≤◌, If
 ghost use Rattle.std.specs.Option.{option_map};
 ghost use Rattle.coniks_proof.specs.ProofRefs.{owned};
 ghost use Rattle.coniks_proof.specs.Wire.{IsEndOf};
-ghost use Rattle.coniks_client.specs.HistorySteps.{HasFront, HasNoFront, IsCutEnd, IsEnd, IsKnown, IsNoEnd, IsNoStep, IsStep, IsUnknown, after_count, count_part, epoch_part, kind_part, past_in, step_in};
+ghost use Rattle.coniks_client.specs.HistorySteps.{HasFront, HasNoFront, IsEnd, IsKnown, IsNoEnd, IsNoStep, IsStep, IsUnknown, after_count, count_part, epoch_part, kind_part, past_in, step_in};
 
 use crate::histories::faults::HistoryFault;
 use crate::histories::siblings::read_siblings;
@@ -164,10 +164,7 @@ fn other_end<'a>(before: &EndRef<'_>, kind: u8, bytes: &'a [u8]) -> Result<Endin
     ensures found { IfOk result (λ ending. IsEnd (Some (owned before.now)) kind bytes.now (owned ending.end) ending.rest.now) }
     ensures refused { IfErr result (λ fault. IsNoEnd (Some (owned before.now)) kind bytes.now fault) }
 {
-    let ending = match sent_end(kind, bytes) {
-        Ok(ending) => ending,
-        Err(fault) => return Err(fault),
-    };
+    let ending = sent_end(kind, bytes)?;
     if is_same_end(before, &ending.end) {
         return Err(HistoryFault::EndRepeated);
     }
