@@ -1,8 +1,10 @@
 -- Two hashed byte lists are equal only if their parts are (as coniks_proof proves them for itself).
-use Rattle.std.proofs.Common.{◌≡◌, ◌≢◌, ℕ, ◌^◌, ◌<◌, List, [], ◌∷◌, ◌++◌, length, Bool, true, false, refl, sym, ap, ◌∙◌, arith, append_assoc}
+use Rattle.std.proofs.Common.{◌≡◌, ◌≢◌, ℕ, ◌+◌, ◌^◌, ◌<◌, List, [], ◌∷◌, ◌++◌, length, flat_map, take, get_or, Bool, true, false, refl, sym, ap, ◌∙◌, arith, append_assoc}
 use Rattle.std.specs.Int.{w16, w32, to_be_bytes, from_be_bytes}
 use Rattle.std.proofs.lemmas.Nat.{from_be_bytes-to_be_bytes_2}
-use Rattle.std.proofs.lemmas.List.{length-append}
+use Rattle.std.specs.Borrow.{Bor}
+use Rattle.std.proofs.lemmas.Grind.{flat_map-append}
+use Rattle.std.proofs.lemmas.List.{append-nil, length-append, take_more}
 use Rattle.coniks_proof.specs.Preimages.{empty_preimage, leaf_preimage, commitment_preimage, packed}
 use Rattle.coniks_proof.specs.Proofs.{joined}
 
@@ -94,3 +96,14 @@ commitment_same o p n m k l size hn hm same =
 pub joined_same_sibling : (right : Bool) (s t u v : List ℕ) → length s ≡ length t → joined right s u ≡ joined right t v → s ≡ t
 joined_same_sibling true s t u v size same = (split_same s t u v size (same_tail 73 73 (s ++ u) (t ++ v) same)).0
 joined_same_sibling false s t u v size same = (split_same_end u v s t size (same_tail 73 73 (u ++ s) (v ++ t) same)).1
+
+-- pieces, one after another
+abbrev pub joined_to : List (Bor (List ℕ)) → List ℕ
+joined_to pieces = flat_map (λ piece. piece.now) pieces
+
+-- a piece more
+pub joined_more : (pieces : List (Bor (List ℕ))) (i : ℕ) (d : Bor (List ℕ)) → i < length pieces
+    → joined_to (take (i + 1) pieces) ≡ joined_to (take i pieces) ++ (get_or pieces i d).now
+joined_more pieces i d within =
+    ap joined_to (take_more pieces i d within) ∙ flat_map-append (λ piece. piece.now) (take i pieces) (get_or pieces i d ∷ [])
+    ∙ ap (λ z. joined_to (take i pieces) ++ z) (append-nil (get_or pieces i d).now)

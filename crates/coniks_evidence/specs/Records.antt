@@ -5,8 +5,6 @@ use Rattle.coniks_proof.specs.Octets.{Octets}
 use Rattle.coniks_proof.specs.Proofs.{Accepts, stated}
 use Rattle.coniks_proof.specs.declared.values.Head.{Head}
 use Rattle.coniks_proof.specs.declared.values.Index.{Index}
-use Rattle.coniks_proof.specs.declared.paths.Answer.{Answer}
-use Rattle.coniks_proof.specs.declared.paths.Proof.{Proof}
 use Rattle.coniks_chain.specs.declared.entry.Body.{Body}
 use Rattle.coniks_chain.specs.declared.entry.Entry.{Entry}
 use Rattle.coniks_client.specs.Changes.{expected, wanted}

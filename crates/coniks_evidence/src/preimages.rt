@@ -110,6 +110,18 @@ fn put_all(bytes: &mut [u8], pieces: &[&[u8]])
     }
 }
 
+/// Returns the number of bytes of pieces.
+fn total(pieces: &[&[u8]]) -> usize
+    requires { length (flat_map (λ piece. piece.now) pieces.now) ≤ MAX_PREIMAGE }
+    ensures { result ≡ length (flat_map (λ piece. piece.now) pieces.now) }
+{
+    let mut size = 0;
+    for piece in pieces {
+        size += piece.len();
+    }
+    size
+}
+
 impl<'a> Preimage<'a> {
     /// Returns what is hashed to an entry's link, from the entry's bytes.
     pub(crate) fn link(entry: &'a [u8; ENTRY_BYTES]) -> Preimage<'a>
@@ -195,7 +207,8 @@ impl<'a> Preimage<'a> {
 
     /// Returns the pieces of the string, one after another.
     fn pieces(&'a self) -> [&'a [u8]; 6]
-        ensures { flat_map (λ piece. piece.now) result ≡ self.now }
+        ensures joined { flat_map (λ piece. piece.now) result ≡ self.now }
+        ensures small { length self.now ≤ MAX_PREIMAGE }
     {
         match &self.parts {
             Parts::Link(entry) => [&[LINK_TAG], *entry, &[], &[], &[], &[]],
@@ -240,51 +253,7 @@ impl<'a> Preimage<'a> {
         ensures size { result ≡ length self.now }
         ensures small { result ≤ MAX_PREIMAGE }
     {
-        match &self.parts {
-            Parts::Link(entry) => {
-                full(*entry);
-                1 + entry.len()
-            }
-            Parts::Empty {
-                nonce,
-                prefix,
-                level,
-            } => {
-                full(&nonce.0);
-                full(prefix);
-                full(level);
-                1 + nonce.0.len() + prefix.len() + level.len()
-            }
-            Parts::Leaf {
-                nonce,
-                index,
-                level,
-                commitment,
-            } => {
-                full(&nonce.0);
-                full(&index.0);
-                full(level);
-                full(&commitment.0);
-                1 + nonce.0.len() + index.0.len() + level.len() + commitment.0.len()
-            }
-            Parts::Inner { left, right } => {
-                full(&left.0);
-                full(&right.0);
-                1 + left.0.len() + right.0.len()
-            }
-            Parts::Commitment {
-                opening,
-                name_length,
-                name,
-                key_length,
-                key,
-            } => {
-                full(&opening.0);
-                full(name_length);
-                full(key_length);
-                1 + opening.0.len() + name_length.len() + name.len() + key_length.len() + key.len()
-            }
-        }
+        total(&self.pieces())
     }
 
     /// Writes the string to the first bytes of a buffer. The bytes after it stay as they are.

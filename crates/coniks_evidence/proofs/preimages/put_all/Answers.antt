@@ -1,19 +1,9 @@
-use Rattle.std.proofs.Common.{◌≡◌, ◌+◌, ◌<◌, ℕ, List, [], ◌∷◌, ◌++◌, length, flat_map, take, drop, get_or, sym, ap, ◌∙◌, arith, length-append}
+use Rattle.std.proofs.Common.{◌≡◌, ◌+◌, ℕ, List, [], ◌++◌, length, drop, get_or, sym, ap, ◌∙◌, arith, length-append}
 use Rattle.std.specs.Borrow.{Bor}
-use Rattle.std.proofs.lemmas.List.{append-nil, drop-drop, take_more}
+use Rattle.std.proofs.lemmas.List.{drop-drop}
 use Rattle.std.proofs.lemmas.List.Folds.{length-flat_map-take}
-use Rattle.std.proofs.lemmas.Grind.{flat_map-append}
+use Rattle.coniks_evidence.proofs.PreimageLemmas.{joined_more}
 use Rattle.coniks_evidence.proofs.preimages.put_all.Goals as goal
-
-abbrev joined_to : List (Bor (List ℕ)) → List ℕ
-joined_to pieces = flat_map (λ piece. piece.now) pieces
-
--- a piece more
-joined_more : (pieces : List (Bor (List ℕ))) (i : ℕ) (d : Bor (List ℕ)) → i < length pieces
-    → joined_to (take (i + 1) pieces) ≡ joined_to (take i pieces) ++ (get_or pieces i d).now
-joined_more pieces i d within =
-    ap joined_to (take_more pieces i d within) ∙ flat_map-append (λ piece. piece.now) (take i pieces) (get_or pieces i d ∷ [])
-    ∙ ap (λ z. joined_to (take i pieces) ++ z) (append-nil (get_or pieces i d).now)
 
 -- what is after a part that was written is as it was
 rest_same : (at next n : ℕ) (old before after : List ℕ) → next ≡ at + n → drop next after ≡ drop next before → drop at before ≡ drop at old → drop next after ≡ drop next old
