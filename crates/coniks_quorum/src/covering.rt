@@ -1,6 +1,6 @@
 //! Which of the first stored epochs a client may drop.
 
-ghost use Rattle.std.specs.Prelude.{◌≡◌, ◌<◌, ◌++◌, ◌↔◌, ℕ, List, IfNone, IfSome, IsTrue, drop, length, take};
+ghost use Rattle.std.specs.Prelude.{◌<◌, ◌++◌, ◌↔◌, ℕ, List, IfNone, IfSome, IsTrue, drop, length, take};
 ghost use Rattle.coniks_proof.specs.Octets.{Octets};
 ghost use Rattle.coniks_client.specs.declared.stored.StoredEntry.{StoredEntry as StoredOne};
 ghost use Rattle.coniks_quorum.specs.Auditors.{Auditor};

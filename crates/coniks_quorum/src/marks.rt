@@ -1,6 +1,6 @@
 //! What a client remembers of its auditors, and the epoch that a quorum of them confirms.
 
-ghost use Rattle.std.specs.Prelude.{◌≡◌, ◌<◌, ◌++◌, ℕ, List, IfNone, IfSome, length, map, nat_le};
+ghost use Rattle.std.specs.Prelude.{◌≡◌, ◌<◌, ◌++◌, List, IfNone, IfSome, length, map, nat_le};
 ghost use Rattle.coniks_proof.specs.Octets.{Octets};
 ghost use Rattle.coniks_client.specs.Comparing.{Compares};
 ghost use Rattle.coniks_client.specs.Feeding.{IsSignedAgain};

@@ -1,8 +1,7 @@
 //! The first entry of a client that starts late.
 
-ghost use Rattle.std.specs.Prelude.{◌≡◌, ◌<◌, ℕ, [], ◌∷◌, IfErr, IfNone, IfOk, IfSome, OnOk, length};
+ghost use Rattle.std.specs.Prelude.{◌≡◌, ◌<◌, [], ◌∷◌, IfErr, IfNone, IfOk, IfSome, OnOk};
 ghost use Rattle.std.specs.Int.{to_be_bytes, w64};
-ghost use Rattle.coniks_chain.specs.Entries.{entry_from};
 ghost use Rattle.coniks_client.specs.StoredEntry.{epoch_in};
 ghost use Rattle.coniks_quorum.specs.Marks.{IsGreatest, marks_of};
 ghost use Rattle.coniks_quorum.specs.Vouching.{Begins, IsRefusedStart, IsUnvouched, IsVouched, differing, has_other, has_same, head_of, vouching};

@@ -1,11 +1,10 @@
 //! The chain of a state that was read.
 
-ghost use Rattle.std.specs.Prelude.{◌≡◌, ◌↔◌, ◌-◌, ◌<◌, ℕ, true, Option, Some, IfErr, IfNone, IfSome, IsTrue, OnOk, length, map, slice_get};
+ghost use Rattle.std.specs.Prelude.{◌≡◌, ◌↔◌, ◌-◌, ◌<◌, true, Option, Some, IfErr, IfNone, IfSome, IsTrue, OnOk, map};
 ghost use Rattle.coniks_chain.specs.Chain.{Follows, auditor_after};
 ghost use Rattle.coniks_client.specs.Feeding.{IsVerified};
 ghost use Rattle.coniks_client.specs.StoredEntry.{IsChain, entry_in, verified_before};
-ghost use Rattle.coniks_client.specs.declared.stored.StoredEntry.{StoredEntry as StoredOne};
-ghost use Rattle.coniks_quorum.specs.Restoring.{AreVerified, IsFirstBad, IsGoodAt};
+ghost use Rattle.coniks_quorum.specs.Restoring.{AreVerified, IsFirstBad};
 ghost use Rattle.coniks_quorum.specs.Saved.{stored_from};
 
 use crate::states::forms::FromBytes;

@@ -1,6 +1,6 @@
 //! Writing a state.
 
-ghost use Rattle.std.specs.Prelude.{◌≡◌, ◌<◌, ◌≤◌, ◌^◌, ◌++◌, ◌∷◌, [], All, IfNone, IfSome, Option, flat_map, length, map, take};
+ghost use Rattle.std.specs.Prelude.{◌≡◌, ◌<◌, ◌≤◌, ◌^◌, ◌∷◌, [], All, IfNone, IfSome, Option, flat_map, length, map, take};
 ghost use Rattle.std.specs.Int.{to_be_bytes, w32, w64};
 ghost use Rattle.std.specs.Option.{option_map};
 ghost use Rattle.coniks_quorum.specs.StateForms.{AreBytesOf, AreCounted, AreSized, IsAlarm, IsStored, IsMark, IsSized, IsSizedChange, IsSizedName, IsSizedWatch};
