@@ -51,6 +51,12 @@ pub record AreChangedIn (old new : RawChanges) : Type 0 where
   pub count : new.count ≡ old.count
   pub room : drop old.count new.items.now ≡ drop old.count old.items.now
 
+-- so of a client: nothing else has changed
+pub record IsMarkedCore (old new : RawCore) : Type 0 where
+  pub stored : IsMarkedIn old.stored new.stored
+  pub changes : AreChangedIn old.changes new.changes
+  pub others : new ≡ record old { stored = new.stored; changes = new.changes }
+
 -- no count is greater than its room
 pub record IsWithin (core : RawCore) : Type 0 where
   pub stored : core.stored.count ≤ length core.stored.items.now

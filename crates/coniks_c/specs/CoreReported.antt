@@ -2,11 +2,13 @@
 use Rattle.std.specs.Prelude.{◌≡◌, ◌==◌, ◌⊎◌, ℕ, List, Bool, Option, Some, None, Any, IfSome, ◌<◌, ◌≤◌, ◌^◌, if◌then◌else◌, length, max, slice_get}
 use Rattle.coniks_proof.specs.Octets.{Octets}
 use Rattle.coniks_proof.specs.Proofs.{stated}
+use Rattle.coniks_proof.specs.Sha256.{sha256}
+use Rattle.coniks_client.specs.Changes.{wanted}
 use Rattle.coniks_client.specs.StoredEntry.{IsChain, epoch_in, latest_epoch}
 use Rattle.coniks_client.specs.HistoryAccepting.{IsAccepted}
 use Rattle.coniks_client.specs.HistoryMarking.{AreReported, IsNumbered}
 use Rattle.coniks_client.specs.Lookups.{IsFound, IsStored}
-use Rattle.coniks_client.specs.Owner.{Scheme}
+use Rattle.coniks_client.specs.Owner.{IsWatched, Scheme}
 use Rattle.coniks_client.specs.Replies.{entry_part, vrf_part}
 use Rattle.coniks_client.specs.Steps.{Marks, given_changes, given_number}
 use Rattle.coniks_client.specs.declared.changes.Change.{Change}
@@ -18,7 +20,9 @@ use Rattle.coniks_client.specs.declared.steps.Shown.{Shown}
 use Rattle.coniks_client.specs.declared.times.Present.{Present}
 use Rattle.coniks_client.specs.declared.watching.Watch.{Watch}
 use Rattle.coniks_c.specs.Checked.{part}
+use Rattle.coniks_c.specs.Core.{changes_in, stored_in}
 use Rattle.coniks_c.specs.CoreStatuses.{seen_of, shows_of}
+use Rattle.coniks_c.specs.declared.core_client.RawCore.{RawCore}
 use Rattle.coniks_c.specs.declared.core_values.RawFound.{RawFound}
 use Rattle.coniks_c.specs.declared.core_values.RawNeeds.{RawNeeds}
 use Rattle.coniks_c.specs.declared.core_values.RawWatch.{RawWatch}
@@ -34,6 +38,12 @@ IsIndexedBy scheme name vrf reported index = scheme name vrf ≡ reported_index 
 -- the watched name, if the number says that one is watched
 abbrev pub watch_in : RawWatch → Option Watch
 watch_in raw = if raw.is_watched == 1 then Some (record { name = raw.name; since = raw.since; key = raw.key }) else None
+
+-- what was seen of the watched name holds after a call, if it held before: each stored epoch that shows what is expected has a proof behind it
+abbrev pub StaysWatched : Scheme → RawCore → RawCore → Type 0
+StaysWatched scheme old new =
+    IfSome (watch_in old.watch) (λ watch. IsWatched sha256 scheme watch.name.now (wanted watch.key.now) (changes_in old) (stored_in old)
+    → IsWatched sha256 scheme watch.name.now (wanted watch.key.now) (changes_in new) (stored_in new))
 
 -- the requested epoch, if the number says that one is requested
 abbrev pub requested_epoch : ℕ → ℕ → Option ℕ

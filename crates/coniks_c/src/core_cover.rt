@@ -21,6 +21,7 @@ use coniks_client::{StoredEntry, latest_epoch, settle};
 use coniks_quorum::alarms::{Alarm, alarms_in, append_alarms, noted};
 use coniks_quorum::covering::coverable;
 use coniks_quorum::laws;
+use std::ops::Range;
 
 /// The dropped epochs and changes.
 #[repr(C)]
@@ -37,16 +38,16 @@ pub struct RawCovered {
     pub alarms: usize,
 }
 
-/// Drops the first `gone` of the first `count` elements: moves the others to the front. What is after them stays as it is. Returns the
-/// number of the others.
-fn drop_first<T: Copy>(items: &mut [T], count: usize, gone: usize) -> usize
-    requires within { gone ≤ count }
-    requires room { count ≤ length items.old }
-    ensures left { result ≡ count - gone }
-    ensures moved { AreMoved items.old items.new count result gone }
+/// Drops the elements before a range: moves those of the range to the front. What is after them stays as it is. Returns their number.
+fn drop_before<T: Copy>(items: &mut [T], left: Range<usize>) -> usize
+    requires within { left.start ≤ left.end }
+    requires room { left.end ≤ length items.old }
+    ensures left { result ≡ left.end - left.start }
+    ensures moved { AreMoved items.old items.new left.end result left.start }
 {
-    items.copy_within(gone..count, 0);
-    count - gone
+    let count = left.end - left.start;
+    items.copy_within(left, 0);
+    count
 }
 
 /// Returns the number of alarms that epochs leave when they are dropped: none if no name is watched.
@@ -91,7 +92,7 @@ fn drop_epochs(
     } else {
         dropping.alarms
     };
-    let _ = drop_first(stored, dropping.stored, dropping.gone);
+    let _ = drop_before(stored, dropping.gone..dropping.stored);
     more
 }
 
@@ -198,7 +199,7 @@ fn settle_watch(core: &mut RawCore<'_, '_>) -> usize
     };
     let stage = settle(core.watch.key, core.changes(), oldest.epoch());
     let count = core.changes.count;
-    core.changes.count = drop_first(core.changes.items, count, stage.count);
+    core.changes.count = drop_before(core.changes.items, stage.count..count);
     core.watch.key = stage.key;
     stage.count
 }
@@ -283,6 +284,6 @@ pub extern "C" fn coniks_core_note(core: &mut RawCore<'_, '_>, epoch: u64) -> u3
     }
     let gone = noted(core.alarms(), epoch);
     let count = core.alarms.count;
-    core.alarms.count = drop_first(core.alarms.items, count, gone);
+    core.alarms.count = drop_before(core.alarms.items, gone..count);
     numbers::GOOD
 }

@@ -1,10 +1,9 @@
 //! A client's histories and catch-ups: what the caller has to verify of a history, and what it shows then.
 
-ghost use Rattle.std.specs.Prelude.{◌≡◌, ◌≢◌, ◌<◌, ◌≤◌, ◌*◌, ◌%◌, ℕ, IfErr, IfOk, IfSome, OnErr, Some, drop, length, slice_get, take};
+ghost use Rattle.std.specs.Prelude.{◌≡◌, ◌≢◌, ◌<◌, ◌≤◌, ◌*◌, ◌%◌, ℕ, IfErr, IfOk, OnErr, Some, drop, length, slice_get, take};
 ghost use Rattle.coniks_proof.specs.Sha256.{sha256};
-ghost use Rattle.coniks_client.specs.Changes.{wanted};
 ghost use Rattle.coniks_client.specs.StoredEntry.{IsChain, entry_in};
-ghost use Rattle.coniks_client.specs.Owner.{IsShown, IsWatched, Scheme};
+ghost use Rattle.coniks_client.specs.Owner.{IsShown, Scheme};
 ghost use Rattle.coniks_client.specs.declared.stored.StoredEntry.{StoredEntry as StoredOne};
 ghost use Rattle.coniks_client.specs.HistoryAccepting.{IsAccepted, IsNotAccepted};
 ghost use Rattle.coniks_client.specs.HistoryChecking.{answer_in};
@@ -14,9 +13,9 @@ ghost use Rattle.coniks_client.specs.declared.histories.faults.AcceptFault.{Acce
 ghost use Rattle.coniks_client.specs.declared.histories.faults.HistoryFault.{HistoryFault as Cut};
 ghost use Rattle.coniks_client.specs.declared.histories.shown.ShownStep.{ShownStep as ShownOne};
 ghost use Rattle.coniks_c.specs.Checked.{part};
-ghost use Rattle.coniks_c.specs.Core.{AreChangedIn, IsMarkedIn, IsWithin, all_in, changes_in, entries_in, stored_in};
+ghost use Rattle.coniks_c.specs.Core.{AreChangedIn, IsMarkedCore, IsMarkedIn, IsWithin, all_in, changes_in, entries_in, stored_in};
 ghost use Rattle.coniks_c.specs.CoreStatuses.{accept_status, history_status};
-ghost use Rattle.coniks_c.specs.CoreReported.{AcceptsAll, IsIndexedBy, watch_in};
+ghost use Rattle.coniks_c.specs.CoreReported.{AcceptsAll, IsIndexedBy, StaysWatched, watch_in};
 
 use crate::core_client::{RawChanges, RawCore, RawStored};
 use crate::core_status::{accept_status, history_status};
@@ -171,9 +170,7 @@ pub extern "C" fn coniks_core_history<'a>(
     ensures full { (¬ IsWithin core.old) → result ≡ 137 }
     ensures refused { result ≢ 0 → IsWithin core.old → (scheme : Scheme) → IsIndexedBy scheme asking.now.name.now (vrf_part asking.now.history.now) verdicts.now.index verdicts.now.at.bytes
         → (fault : Fault) × (result ≡ accept_status fault) × IsNotAccepted sha256 scheme (stored_in core.old) asking.now.name.now asking.now.history.now (length steps.old.items.now) fault }
-    ensures stored { IsMarkedIn core.old.stored core.new.stored }
-    ensures changes { AreChangedIn core.old.changes core.new.changes }
-    ensures others { core.new ≡ record core.old { stored = core.new.stored; changes = core.new.changes } }
+    ensures marked { IsMarkedCore core.old core.new }
     ensures unchanged { result ≢ 0 → (core.new ≡ core.old) × (steps.new.count ≡ steps.old.count) }
 
     // Each answer was shown under the stored entry, which is what the owner law asks of both clients.
@@ -184,8 +181,7 @@ pub extern "C" fn coniks_core_history<'a>(
     // The stored epochs are still a chain, and each that shows what is expected has a proof behind it.
     ensures chain { result ≡ 0 → IsChain sha256 (stored_in core.old) → IsChain sha256 (stored_in core.new) }
     ensures watched { result ≡ 0 → (scheme : Scheme) → IsIndexedBy scheme asking.now.name.now (vrf_part asking.now.history.now) verdicts.now.index verdicts.now.at.bytes
-        → IfSome (watch_in core.old.watch) (λ watch. IsWatched sha256 scheme watch.name.now (wanted watch.key.now) (changes_in core.old) (stored_in core.old)
-        → IsWatched sha256 scheme watch.name.now (wanted watch.key.now) (changes_in core.new) (stored_in core.new)) }
+        → StaysWatched scheme core.old core.new }
 {
     if !core.is_within() {
         return numbers::MISUSE_NO_ROOM;

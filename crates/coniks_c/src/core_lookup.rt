@@ -1,19 +1,18 @@
 //! A client's lookup: what the caller has to verify, and what a reply shows then.
 
-ghost use Rattle.std.specs.Prelude.{◌≡◌, ◌≢◌, ◌⊎◌, ◌≤◌, ◌↔◌, Bool, Option, IfErr, IfOk, IfSome, OnErr, drop, length, take};
+ghost use Rattle.std.specs.Prelude.{◌≡◌, ◌≢◌, ◌⊎◌, ◌≤◌, ◌↔◌, Bool, Option, IfErr, IfOk, OnErr, drop, length, take};
 ghost use Rattle.coniks_proof.specs.Octets.{Octets};
 ghost use Rattle.coniks_proof.specs.Sha256.{sha256};
 ghost use Rattle.coniks_chain.specs.Entries.{entry_from};
-ghost use Rattle.coniks_client.specs.Changes.{wanted};
 ghost use Rattle.coniks_client.specs.StoredEntry.{IsChain};
 ghost use Rattle.coniks_client.specs.Lookups.{IsFound, IsStored, IsNotFound};
-ghost use Rattle.coniks_client.specs.Owner.{IsWatched, Scheme};
+ghost use Rattle.coniks_client.specs.Owner.{Scheme};
 ghost use Rattle.coniks_client.specs.Replies.{IsNoReply, IsReply, entry_part, vrf_part};
 ghost use Rattle.coniks_client.specs.declared.lookups.LookupFault.{LookupFault as Fault};
 ghost use Rattle.coniks_client.specs.declared.replies.ReplyFault.{ReplyFault as Cut};
 ghost use Rattle.coniks_c.specs.CoreStatuses.{lookup_status, reply_status, why_of_lookup};
-ghost use Rattle.coniks_c.specs.Core.{AreChangedIn, IsMarkedIn, IsWithin, all_in, changes_in, entries_in, present_in, stored_in};
-ghost use Rattle.coniks_c.specs.CoreReported.{IsAnswered, IsIndexedBy, LooksUp, Needs, requested_epoch, watch_in};
+ghost use Rattle.coniks_c.specs.Core.{AreChangedIn, IsMarkedCore, IsMarkedIn, IsWithin, all_in, changes_in, entries_in, present_in, stored_in};
+ghost use Rattle.coniks_c.specs.CoreReported.{IsAnswered, IsIndexedBy, LooksUp, Needs, StaysWatched, requested_epoch, watch_in};
 ghost use Rattle.coniks_c.specs.Crossing.{IsReportedBy};
 
 use crate::auditor::Reported;
@@ -142,17 +141,14 @@ pub extern "C" fn coniks_core_lookup(
         → IsIndexedBy scheme asking.now.name.now (vrf_part asking.now.reply.now) verdicts.now.index verdicts.now.at.bytes
         → (fault : Fault) × (result ≡ lookup_status fault) × IsNotFound (present_in core.old.rules asking.now.time) sha256 verdict scheme core.old.rules.policy.bytes (stored_in core.old) asking.now.name.now
         asking.now.reply.now (requested_epoch asking.now.is_requested asking.now.epoch) fault × (why.new ≡ why_of_lookup fault) }
-    ensures stored { IsMarkedIn core.old.stored core.new.stored }
-    ensures changes { AreChangedIn core.old.changes core.new.changes }
-    ensures others { core.new ≡ record core.old { stored = core.new.stored; changes = core.new.changes } }
+    ensures marked { IsMarkedCore core.old core.new }
     ensures unchanged { result ≢ 0 → (core.new ≡ core.old) × (found.new ≡ found.old) }
     ensures unwritten { (result ≡ 0) ⊎ (result ≡ 137) → why.new ≡ why.old }
 
     // The stored epochs are still a chain, and each that shows what is expected has a proof behind it.
     ensures chain { result ≡ 0 → IsChain sha256 (stored_in core.old) → IsChain sha256 (stored_in core.new) }
     ensures watched { result ≡ 0 → (scheme : Scheme) → IsIndexedBy scheme asking.now.name.now (vrf_part asking.now.reply.now) verdicts.now.index verdicts.now.at.bytes
-        → IfSome (watch_in core.old.watch) (λ watch. IsWatched sha256 scheme watch.name.now (wanted watch.key.now) (changes_in core.old) (stored_in core.old)
-        → IsWatched sha256 scheme watch.name.now (wanted watch.key.now) (changes_in core.new) (stored_in core.new)) }
+        → StaysWatched scheme core.old core.new }
 {
     if !core.is_within() {
         return numbers::MISUSE_NO_ROOM;

@@ -1,25 +1,12 @@
 //! Missing epochs of which the policy promises no proof any more.
 
-ghost use Rattle.std.specs.Prelude.{◌≡◌, ◌<◌, length, slice_get};
-ghost use Rattle.coniks_quorum.specs.Lost.{epoch_after};
+ghost use Rattle.std.specs.Prelude.{◌≡◌, slice_get};
 ghost use Rattle.coniks_c.specs.Core.{present_in, promise_in, stored_in};
 ghost use Rattle.coniks_c.specs.CoreQuorum.{lost_number};
 
 use crate::core_client::RawCore;
-use coniks_client::StoredEntry;
 use coniks_client::watching::MISSING;
-use coniks_quorum::lost::is_lost;
-
-/// Returns the number of the stored epoch after a place.
-fn next_epoch(stored: &[StoredEntry], place: usize) -> Option<u64>
-    requires { place < length stored.now }
-    ensures { result ≡ epoch_after stored.now place }
-{
-    match stored.get(place + 1) {
-        Some(next) => Some(next.epoch()),
-        None => None,
-    }
-}
+use coniks_quorum::lost::lost_at;
 
 /// Returns 1 if the stored epoch of a place is missing, and lost: the policy promises no proof of it any more. Else returns 0, also if there
 /// is no epoch at the place.
@@ -30,8 +17,12 @@ pub extern "C" fn coniks_core_lost(core: &RawCore<'_, '_>, time: u64, place: usi
     let stored = core.stored();
     match stored.get(place) {
         Some(mine) => {
-            let next = next_epoch(stored, place);
-            let lost = is_lost(&core.rules.present(time), &core.rules.promise(), next);
+            let lost = lost_at(
+                &core.rules.present(time),
+                &core.rules.promise(),
+                stored,
+                place,
+            );
             u32::from(mine.seen == MISSING && lost)
         }
         None => 0,

@@ -262,10 +262,7 @@ fn put_stored(parts: &State<'_>, stored: &mut [StoredEntry]) -> usize
     ensures count { result ≡ length parts.now.stored.now }
     ensures stored { take result stored.new ≡ map stored_from parts.now.stored.now }
 {
-    match parts.copy_stored(stored) {
-        Some(count) => count,
-        None => 0,
-    }
+    parts.copy_stored(stored).unwrap_or(0)
 }
 
 /// Copies the alarms of a state to the first places of a slice, and returns their number.
@@ -274,10 +271,7 @@ fn put_alarms(parts: &State<'_>, alarms: &mut [Alarm]) -> usize
     ensures count { result ≡ length parts.now.alarms.now }
     ensures alarms { take result alarms.new ≡ map alarm_from parts.now.alarms.now }
 {
-    match parts.copy_alarms(alarms) {
-        Some(count) => count,
-        None => 0,
-    }
+    parts.copy_alarms(alarms).unwrap_or(0)
 }
 
 /// Copies the changes of a state to the first places of a slice, and returns their number.
@@ -286,10 +280,7 @@ fn put_changes<'a>(parts: &State<'a>, changes: &mut [Change<'a>]) -> usize
     ensures { AreCopied parts.now.watch (take result changes.new) result }
 {
     match &parts.watch {
-        Some(watched) => match watched.copy_changes(changes) {
-            Some(count) => count,
-            None => 0,
-        },
+        Some(watched) => watched.copy_changes(changes).unwrap_or(0),
         None => 0,
     }
 }

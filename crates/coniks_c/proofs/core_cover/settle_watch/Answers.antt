@@ -14,7 +14,7 @@ returns-clause-watched c = λ chain scheme name watched.
     let stored = stored_in c.args.core.now in
     let at : slice_get stored 0 ≡ Some c.in-Some.oldest.now = search rules in
     let from = subst (λ (n : ℕ). AreFrom n stored) (sym c.epoch.ensures) (from-first sha256 stored c.in-Some.oldest.now chain at) in
-    subst (λ (changes : List Change). IsWatched sha256 scheme name (wanted c.settle-stage.result.key.now) changes stored) (sym c.drop_first-core.ensures.moved.left)
+    subst (λ (changes : List Change). IsWatched sha256 scheme name (wanted c.settle-stage.result.key.now) changes stored) (sym c.drop_before-core.ensures.moved.left)
     (subst (λ (changes : List Change). IsWatched sha256 scheme name (wanted c.settle-stage.result.key.now) (drop c.settle-stage.result.count changes) stored) c.changes.ensures
     (c.settle-stage.ensures.watched sha256 scheme name stored from
     (subst (λ (changes : List Change). IsWatched sha256 scheme name (wanted c.args.core.now.watch.key.now) changes stored) (sym c.changes.ensures) watched)))
