@@ -11,26 +11,33 @@ use coniks_proof::{Hash32, Index, MAX_LEVEL, Prefix, Proof};
 use coniks_tree::{Change, OutOfMemory, Part, Root, Tree, lefts};
 use std::alloc::Global;
 
-/// Returns what an older root shows under a prefix, or nothing if there is none, overwritten by changes. The parts of
+/// What the part of an epoch is grown from: a tree, the hash of the new nodes, and the root whose entries are overwritten.
+#[derive(Drop)]
+struct Base<'a, H> {
+    tree: &'a Tree,
+    h: &'a H,
+    older: Option<Root>,
+}
+
+/// Returns what the older root shows under a prefix, or nothing if there is none, overwritten by changes. The parts of
 /// the prefixes of `depth` more bits that have a change are grown apart.
 fn grown_at<H: Hash32>(
-    tree: &Tree,
-    h: &H,
-    older: Option<Root>,
+    base: &Base<'_, H>,
     prefix: &Prefix,
     depth: usize,
     changes: &[Change],
 ) -> Result<Part, OutOfMemory>
-    ensures fits { IfOk result (λ part. Fits (length tree.now.nodes) (length prefix.now) part) }
-    ensures placed { IfOk result (λ part. (all : List Record) → Extends tree.now.records all → AllPlaced all changes.now → Placed all part) }
+    ensures fits { IfOk result (λ part. Fits (length base.now.tree.now.nodes) (length prefix.now) part) }
+    ensures placed { IfOk result (λ part. (all : List Record) → Extends base.now.tree.now.records all → AllPlaced all changes.now → Placed all part) }
 {
+    let Base { tree, h, older } = *base;
     if depth == 0 || changes.is_empty() || prefix.len() == MAX_LEVEL {
         let part = part_before(tree, older, prefix);
         return Ok(tree.grow(h, &NONCE, part, prefix, changes)?);
     }
     let (on_left, on_right) = changes.split_at(lefts(changes, prefix.len()));
-    let left = grown_at(tree, h, older, &prefix.child(false), depth - 1, on_left)?;
-    let right = grown_at(tree, h, older, &prefix.child(true), depth - 1, on_right)?;
+    let left = grown_at(base, &prefix.child(false), depth - 1, on_left)?;
+    let right = grown_at(base, &prefix.child(true), depth - 1, on_right)?;
     Ok(tree.join(h, &NONCE, prefix, left, right)?)
 }
 
@@ -78,7 +85,12 @@ impl<H: Hash32> Epochs<H> {
     ) -> Result<Added, OutOfMemory> {
         let records = records_of(self.alloc, &self.h, bindings)?;
         let changes = changes_to(self.alloc, self.tree.records(), &records)?;
-        let part = grown_at(&self.tree, &self.h, older, &Prefix::root(), depth, &changes)?;
+        let base = Base {
+            tree: &self.tree,
+            h: &self.h,
+            older,
+        };
+        let part = grown_at(&base, &Prefix::root(), depth, &changes)?;
         Ok(add(&mut self.tree, &self.h, part, records)?)
     }
 

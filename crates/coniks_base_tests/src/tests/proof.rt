@@ -142,16 +142,18 @@ fn refused_in_turn(rt: HostRuntime) {
     let _ = println!(rt; "{}", if is_refused { "refused" } else { "answered" });
 }
 
-/// Returns whether a proof with this number of siblings, which are all ones, is encoded as the kind, the number, the
-/// siblings and these pieces.
-fn is_written(
-    rt: &impl Abort,
-    alloc: Global,
-    siblings: u16,
+/// The end of a proof, and its encoding: the kind, and the pieces after the siblings.
+#[derive(Drop)]
+struct Encoded<'a> {
     end: End,
     kind: u8,
-    pieces: &[&[u8]],
-) -> bool {
+    pieces: &'a [&'a [u8]],
+}
+
+/// Returns whether a proof with this number of siblings, which are all ones, and with an end is encoded as the kind, the
+/// number, the siblings and the pieces.
+fn is_written(rt: &impl Abort, alloc: Global, siblings: u16, encoded: Encoded<'_>) -> bool {
+    let Encoded { end, kind, pieces } = encoded;
     let proof = beside(rt, alloc, usize::from(siblings), end);
     let bytes = proof.bytes(alloc).expect(rt, "memory");
     let ones = repeated(rt, alloc, 1, usize::from(siblings) * 32);
@@ -166,25 +168,31 @@ fn is_written(
 #[test]
 fn written(rt: HostRuntime) {
     let alloc = rt.alloc();
-    let index = index_of(0x40, 0);
-    let commitment = ONES;
-    let other = End::Other { index, commitment };
-    let leaf = here(&rt, alloc, b"a", b"kk");
+    let (index, commitment) = (index_of(0x40, 0), ONES);
     let name = repeated(&rt, alloc, b'n', 65_535);
     let key = repeated(&rt, alloc, b'k', 70_000);
-    let long = here(&rt, alloc, &name, &key);
-    assert!(rt; is_written(&rt, alloc, 2, End::Empty, 0, &[]));
-    assert!(rt; is_written(&rt, alloc, 0, other, 1, &[&index.0, &ONES.0]));
-    assert!(rt;
-        is_written(
-            &rt,
-            alloc,
-            1,
-            leaf,
-            2,
-            &[&OPENING.0, b"\0\x01a\0\0\0\x02kk"]
-        )
-    );
-    let pieces: [&[u8]; 5] = [&OPENING.0, b"\xff\xff", &name, b"\0\x01\x11\x70", &key];
-    assert!(rt; is_written(&rt, alloc, 65_535, long, 2, &pieces));
+    let empty = Encoded {
+        end: End::Empty,
+        kind: 0,
+        pieces: &[],
+    };
+    let other = Encoded {
+        end: End::Other { index, commitment },
+        kind: 1,
+        pieces: &[&index.0, &ONES.0],
+    };
+    let short = Encoded {
+        end: here(&rt, alloc, b"a", b"kk"),
+        kind: 2,
+        pieces: &[&OPENING.0, b"\0\x01a\0\0\0\x02kk"],
+    };
+    let long = Encoded {
+        end: here(&rt, alloc, &name, &key),
+        kind: 2,
+        pieces: &[&OPENING.0, b"\xff\xff", &name, b"\0\x01\x11\x70", &key],
+    };
+    assert!(rt; is_written(&rt, alloc, 2, empty));
+    assert!(rt; is_written(&rt, alloc, 0, other));
+    assert!(rt; is_written(&rt, alloc, 1, short));
+    assert!(rt; is_written(&rt, alloc, 65_535, long));
 }
