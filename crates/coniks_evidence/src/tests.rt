@@ -4,6 +4,7 @@ mod clients;
 mod directories;
 mod worlds;
 
+use crate::tests::directories::joined;
 use crate::{ContactRecord, Finding, OwnerRecord, Preimage, Reason, ReplyVerifier, examine};
 use coniks_chain::ENTRY_BYTES;
 use coniks_client::{IndexScheme, StoredEntry, Watch};
@@ -46,26 +47,37 @@ fn stored(entry: [u8; ENTRY_BYTES]) -> StoredEntry {
     }
 }
 
-/// Returns a reply in which `alice` has a key of one byte, at an index of one byte 32 times.
-fn reply(
-    rt: &impl Abort,
-    alloc: Global,
-    entry: &[u8; ENTRY_BYTES],
+/// How `alice` is registered in a reply: a key of one byte, and the byte that her index and her opening have 32 times.
+#[derive(Clone, Copy)]
+struct Registered {
     index: u8,
     opening: u8,
     key: u8,
-) -> Vec<u8> {
-    let mut bytes = vec![in alloc; 1].expect(rt, "memory");
-    bytes.extend_from_slice(entry).expect(rt, "memory");
-    bytes.extend_from_slice(b"\0\x20").expect(rt, "memory");
-    bytes.extend_from_slice(&[index; 32]).expect(rt, "memory");
-    bytes.extend_from_slice(b"\x02\0\0").expect(rt, "memory");
-    bytes.extend_from_slice(&[opening; 32]).expect(rt, "memory");
-    bytes
-        .extend_from_slice(b"\0\x05alice\0\0\0\x01")
-        .expect(rt, "memory");
-    bytes.push(key).expect(rt, "memory");
-    bytes
+}
+
+/// How she is registered with the key that she expects.
+const EXPECTED: Registered = Registered {
+    index: 0,
+    opening: 1,
+    key: 7,
+};
+
+/// Returns a reply in which `alice` is registered.
+fn reply(rt: &impl Abort, alloc: Global, entry: &[u8; ENTRY_BYTES], alice: Registered) -> Vec<u8> {
+    joined(
+        rt,
+        alloc,
+        &[
+            &[1],
+            entry,
+            b"\0\x20",
+            &[alice.index; 32],
+            b"\x02\0\0",
+            &[alice.opening; 32],
+            b"\0\x05alice\0\0\0\x01",
+            &[alice.key],
+        ],
+    )
 }
 
 /// Returns whether a string is written as these bytes, and the byte after it is left as it is.
@@ -125,51 +137,55 @@ fn found<'a>(
 fn two_keys_in_one_commitment(rt: HostRuntime) {
     let bytes = entry(0);
     let chain = [stored(bytes)];
-    let mine = reply(&rt, rt.alloc(), &bytes, 0, 1, 7);
-    let other = reply(&rt, rt.alloc(), &bytes, 0, 2, 8);
-    match found(&chain, &mine, &chain, &other, 1) {
-        Finding::Nodes(pair) => {
-            assert!(rt; is_written(&pair.x, &[b"C", &[1; 32], b"\0\x05alice\0\0\0\x01\x07"]));
-            assert!(rt; is_written(&pair.y, &[b"C", &[2; 32], b"\0\x05alice\0\0\0\x01\x08"]));
-        }
-        _ => assert!(rt; false),
-    }
+    let mine = reply(&rt, rt.alloc(), &bytes, EXPECTED);
+    let changed = Registered {
+        opening: 2,
+        key: 8,
+        ..EXPECTED
+    };
+    let other = reply(&rt, rt.alloc(), &bytes, changed);
+    let Finding::Nodes(pair) = found(&chain, &mine, &chain, &other, 1) else {
+        panic!(rt; "no two nodes")
+    };
+    assert!(rt; is_written(&pair.x, &[b"C", &[1; 32], b"\0\x05alice\0\0\0\x01\x07"]));
+    assert!(rt; is_written(&pair.y, &[b"C", &[2; 32], b"\0\x05alice\0\0\0\x01\x08"]));
 }
 
 #[test]
 fn two_entries_with_one_link(rt: HostRuntime) {
     let hers = [stored(entry(0))];
     let his = [stored(entry(5))];
-    match found(&hers, b"", &his, b"", 1) {
-        Finding::Links(pair) => {
-            assert!(rt; is_written(&pair.x, &[b"S", &entry(0)]));
-            assert!(rt; is_written(&pair.y, &[b"S", &entry(5)]));
-        }
-        _ => assert!(rt; false),
-    }
+    let Finding::Links(pair) = found(&hers, b"", &his, b"", 1) else {
+        panic!(rt; "no two links")
+    };
+    assert!(rt; is_written(&pair.x, &[b"S", &entry(0)]));
+    assert!(rt; is_written(&pair.y, &[b"S", &entry(5)]));
 }
 
 #[test]
 fn two_indices(rt: HostRuntime) {
     let bytes = entry(0);
     let chain = [stored(bytes)];
-    let mine = reply(&rt, rt.alloc(), &bytes, 0, 1, 7);
-    let other = reply(&rt, rt.alloc(), &bytes, 3, 1, 7);
-    match found(&chain, &mine, &chain, &other, 1) {
-        Finding::Indices(a, b) => {
-            assert!(rt; a.index == Index([0; 32]));
-            assert!(rt; b.index == Index([3; 32]));
-        }
-        _ => assert!(rt; false),
-    }
+    let mine = reply(&rt, rt.alloc(), &bytes, EXPECTED);
+    let moved = Registered {
+        index: 3,
+        ..EXPECTED
+    };
+    let other = reply(&rt, rt.alloc(), &bytes, moved);
+    let Finding::Indices(a, b) = found(&chain, &mine, &chain, &other, 1) else {
+        panic!(rt; "no two indices")
+    };
+    assert!(rt; a.index == Index([0; 32]));
+    assert!(rt; b.index == Index([3; 32]));
 }
 
 #[test]
 fn nothing_convicts(rt: HostRuntime) {
     let bytes = entry(0);
     let chain = [stored(bytes)];
-    let mine = reply(&rt, rt.alloc(), &bytes, 0, 1, 7);
-    let other = reply(&rt, rt.alloc(), &bytes, 0, 1, 8);
+    let mine = reply(&rt, rt.alloc(), &bytes, EXPECTED);
+    let changed = Registered { key: 8, ..EXPECTED };
+    let other = reply(&rt, rt.alloc(), &bytes, changed);
     assert!(rt; matches!(found(&chain, &mine, &chain, &mine, 1), Finding::Same));
     assert!(rt;
         matches!(

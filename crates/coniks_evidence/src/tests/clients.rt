@@ -56,6 +56,17 @@ pub(crate) const NO_COUNTS: Counts = Counts {
     other: 0,
 };
 
+/// The records of both clients under a hash: Alice's, with what she is shown at an epoch, and Bob's chain, with what he is shown
+/// at that epoch.
+#[derive(Clone, Copy)]
+pub(crate) struct Records<'a> {
+    pub(crate) h: &'a Flawed,
+    pub(crate) owner: &'a Owner<'a>,
+    pub(crate) mine: &'a Reported<'a>,
+    pub(crate) stored: &'a [StoredEntry],
+    pub(crate) other: &'a Reported<'a>,
+}
+
 /// Returns whether an answer is a key, or none if that has no byte.
 fn is_key(answer: &Answer<'_>, key: &[u8]) -> bool {
     match answer {
@@ -125,6 +136,43 @@ impl Counts {
                 assert!(rt; convicts(h, finding));
                 self.count_convicted(is_same);
             }
+        }
+    }
+
+    /// Counts what is found if Bob's client accepted a reply at an epoch, with each head from the epoch on.
+    pub(crate) fn count_heads(&mut self, rt: &impl Abort, records: &Records<'_>) {
+        let Records {
+            h,
+            owner,
+            mine,
+            stored,
+            other,
+        } = *records;
+        let record = OwnerRecord {
+            stored: &owner.stored,
+            watch: owner.watch,
+            changes: &owner.changes,
+            reply: &mine.reply,
+        };
+        let contact = ContactRecord {
+            stored,
+            reply: &other.reply,
+        };
+        let by = ReplyVerifier {
+            hash: h,
+            indices: &Proof32,
+        };
+        for last in owner
+            .stored
+            .iter()
+            .filter(|last| mine.epoch <= last.epoch())
+        {
+            let head = Head {
+                epoch: last.epoch(),
+                link: link(h, &last.entry()),
+            };
+            let finding = examine(&by, &head, mine.epoch, &record, &contact);
+            self.count(rt, h, &finding, *other.key == *mine.key);
         }
     }
 
@@ -248,43 +296,5 @@ pub(crate) fn refusal<S: IndexScheme>(
             None
         }
         Err(fault) => Some(fault),
-    }
-}
-
-/// Counts what is found if Bob's client accepted a reply at an epoch, with each head from the epoch on.
-pub(crate) fn count_heads(
-    rt: &impl Abort,
-    h: &Flawed,
-    owner: &Owner<'_>,
-    mine: &Reported<'_>,
-    stored: &[StoredEntry],
-    other: &Reported<'_>,
-    counts: &mut Counts,
-) {
-    let record = OwnerRecord {
-        stored: &owner.stored,
-        watch: owner.watch,
-        changes: &owner.changes,
-        reply: &mine.reply,
-    };
-    let contact = ContactRecord {
-        stored,
-        reply: &other.reply,
-    };
-    let by = ReplyVerifier {
-        hash: h,
-        indices: &Proof32,
-    };
-    for last in owner
-        .stored
-        .iter()
-        .filter(|last| mine.epoch <= last.epoch())
-    {
-        let head = Head {
-            epoch: last.epoch(),
-            link: link(h, &last.entry()),
-        };
-        let finding = examine(&by, &head, mine.epoch, &record, &contact);
-        counts.count(rt, h, &finding, *other.key == *mine.key);
     }
 }

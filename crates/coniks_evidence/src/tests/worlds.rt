@@ -4,7 +4,7 @@
 //! The expected counts follow from the numbers of trees, keys and strings.
 
 use crate::tests::Proof32;
-use crate::tests::clients::{Counts, NO_COUNTS, Owner, Reported, count_heads, goes_on, refusal};
+use crate::tests::clients::{Counts, NO_COUNTS, Owner, Records, Reported, goes_on, refusal};
 use crate::tests::directories::{
     ALICE, Bound, CAROL, FIRST, Flawed, SHA256, Shown, all_shown, colliding, entry_after, hashes,
     reply, second,
@@ -23,79 +23,108 @@ const WITH_CAROL: Bound = Bound {
     key: *b"A",
 };
 
-/// Returns Alice after epochs with the trees of a history: the remainders when its number is divided by that of the trees.
-fn owner_of<'a>(
-    rt: &impl Abort,
-    alloc: Global,
-    h: &Flawed,
-    all: &'a [Shown],
-    history: usize,
+/// A history of Alice's directory: the number of its epochs, and a number whose digits to the base `TREES` are the trees of the
+/// epochs, the lowest digit first.
+#[derive(Clone, Copy)]
+struct History {
     epochs: usize,
-) -> Owner<'a> {
-    assert!(rt; all.len() == TREES);
-    let mut owner = Owner::new(alloc, &all[history % TREES]);
-    let mut rest = history;
-    for _ in 0..epochs {
-        owner.see(rt, alloc, h, &all[rest % TREES]);
-        rest /= TREES;
-    }
-    owner
+    trees: usize,
 }
 
-/// Shows Bob each tree under the entry of one epoch.
-fn show_each(
-    rt: &impl Abort,
-    alloc: Global,
-    h: &Flawed,
-    owner: &Owner<'_>,
-    mine: &Reported<'_>,
-    all: &[Shown],
-    counts: &mut Counts,
-) {
-    for shown in all {
-        let other = Reported {
-            epoch: mine.epoch,
-            entry: mine.entry,
-            reply: reply(rt, alloc, &mine.entry, &FIRST, &shown.proof),
-            key: shown.tree.key(),
+/// Returns the number of histories of some epochs.
+fn histories(epochs: usize) -> usize {
+    let mut count = 1usize;
+    for _ in 0..epochs {
+        count = count.saturating_mul(TREES);
+    }
+    count
+}
+
+/// A hash, what a directory can show with each tree under it, and Alice after a history.
+#[derive(Drop)]
+struct World<'a> {
+    h: &'a Flawed,
+    all: &'a [Shown],
+    history: History,
+    owner: Owner<'a>,
+}
+
+impl<'a> World<'a> {
+    /// Returns the world in which Alice is shown a history.
+    fn new(
+        rt: &impl Abort,
+        alloc: Global,
+        h: &'a Flawed,
+        all: &'a [Shown],
+        history: History,
+    ) -> World<'a> {
+        assert!(rt; all.len() == TREES);
+        let mut rest = history.trees;
+        let mut owner = Owner::new(alloc, &all[rest % TREES]);
+        for _ in 0..history.epochs {
+            owner.see(rt, alloc, h, &all[rest % TREES]);
+            rest /= TREES;
+        }
+        World {
+            h,
+            all,
+            history,
+            owner,
+        }
+    }
+
+    /// Counts what is found if Bob has Alice's chain and is shown `other` at the epoch of `mine`.
+    fn count_heads(
+        &self,
+        rt: &impl Abort,
+        mine: &Reported<'_>,
+        other: &Reported<'_>,
+        counts: &mut Counts,
+    ) {
+        let records = Records {
+            h: self.h,
+            owner: &self.owner,
+            mine,
+            stored: &self.owner.stored,
+            other,
         };
-        match refusal(rt, h, &Proof32, &owner.stored, &other) {
-            None => count_heads(rt, h, owner, mine, &owner.stored, &other, counts),
-            Some(fault) => {
-                assert!(rt; fault == LookupFault::Check(CheckFault::RootMismatch));
-                counts.count_refused();
+        counts.count_heads(rt, &records);
+    }
+
+    /// Shows Bob each tree under the entry of one epoch.
+    fn show_each(&self, rt: &impl Abort, alloc: Global, mine: &Reported<'_>, counts: &mut Counts) {
+        for shown in self.all {
+            let other = Reported {
+                epoch: mine.epoch,
+                entry: mine.entry,
+                reply: reply(rt, alloc, &mine.entry, &FIRST, &shown.proof),
+                key: shown.tree.key(),
+            };
+            match refusal(rt, self.h, &Proof32, &self.owner.stored, &other) {
+                None => self.count_heads(rt, mine, &other, counts),
+                Some(fault) => {
+                    assert!(rt; fault == LookupFault::Check(CheckFault::RootMismatch));
+                    counts.count_refused();
+                }
             }
+        }
+    }
+
+    /// Shows Bob each tree at each epoch of the history.
+    fn show_at_each(&self, rt: &impl Abort, alloc: Global, counts: &mut Counts) {
+        for mine in &self.owner.reported {
+            self.show_each(rt, alloc, mine, counts);
         }
     }
 }
 
-/// Shows Bob each tree at each epoch of a history.
-fn show_at_each(
-    rt: &impl Abort,
-    alloc: Global,
-    h: &Flawed,
-    owner: &Owner<'_>,
-    all: &[Shown],
-    counts: &mut Counts,
-) {
-    for mine in &owner.reported {
-        show_each(rt, alloc, h, owner, mine, all, counts);
-    }
-}
-
 /// Returns the counts of all histories of some epochs in which Bob is shown each tree at each epoch.
-fn counts_of(
-    rt: &impl Abort,
-    alloc: Global,
-    h: &Flawed,
-    epochs: usize,
-    histories: usize,
-) -> Counts {
+fn counts_of(rt: &impl Abort, alloc: Global, h: &Flawed, epochs: usize) -> Counts {
     let all = all_shown(rt, alloc, h, WITH_CAROL);
     let mut counts = NO_COUNTS;
-    for history in 0..histories {
-        let owner = owner_of(rt, alloc, h, &all, history, epochs);
-        show_at_each(rt, alloc, h, &owner, &all, &mut counts);
+    for trees in 0..histories(epochs) {
+        let world = World::new(rt, alloc, h, &all, History { epochs, trees });
+        world.show_at_each(rt, alloc, &mut counts);
     }
     counts
 }
@@ -104,7 +133,7 @@ fn counts_of(
 /// 1 heads.
 #[test]
 fn no_collision(rt: HostRuntime) {
-    let counts = counts_of(&rt, rt.alloc(), &SHA256, 3, 512);
+    let counts = counts_of(&rt, rt.alloc(), &SHA256, 3);
     let wanted = Counts {
         refused: 512 * 3 * 7,
         same: 512 * 6,
@@ -115,10 +144,10 @@ fn no_collision(rt: HostRuntime) {
 
 /// Adds the counts of all histories of one epoch under a hash, and of three epochs if two trees have one root.
 fn add_counts(rt: &impl Abort, alloc: Global, h: &Flawed, one: &mut Counts, three: &mut Counts) {
-    let counts = counts_of(rt, alloc, h, 1, TREES);
+    let counts = counts_of(rt, alloc, h, 1);
     one.add(&counts);
     if counts.refused < 56 {
-        three.add(&counts_of(rt, alloc, h, 3, 512));
+        three.add(&counts_of(rt, alloc, h, 3));
     }
 }
 
@@ -154,49 +183,59 @@ fn each_two_strings(rt: HostRuntime) {
     assert!(rt; three == wanted_of_three);
 }
 
-/// Returns what Bob is shown at an epoch: `other`, if it is of this epoch, else what Alice is shown.
-fn reported_bob<'a, 'b>(mine: &'a Reported<'b>, other: &'a Reported<'b>) -> &'a Reported<'b> {
-    if mine.epoch == other.epoch {
-        other
-    } else {
-        mine
-    }
+/// Alice, another entry and its tree that Bob is shown at one epoch, and the hash of both entries' links.
+#[derive(Clone, Copy)]
+struct Fork<'a> {
+    h: &'a Flawed,
+    owner: &'a Owner<'a>,
+    other: &'a Reported<'a>,
 }
 
-/// Returns Bob's chain, which has another entry than Alice's at one epoch, as far as his client accepts it.
-fn chain_of_bob<'a>(
-    rt: &impl Abort,
-    alloc: Global,
-    h: &Flawed,
-    owner: &Owner<'a>,
-    other: &Reported<'a>,
-    counts: &mut Counts,
-) -> Vec<StoredEntry> {
-    let mut stored = Vec::new(alloc);
-    for mine in &owner.reported {
-        let entry = reported_bob(mine, &*other).entry;
-        if !goes_on(rt, h, &mut stored, &None, &entry) {
-            counts.count_refused();
-            break;
+impl<'a> Fork<'a> {
+    /// Returns what Bob is shown at the epoch of `mine`: `other`, if it is of this epoch, else what Alice is shown.
+    fn shown_to_bob(&self, mine: &'a Reported<'a>) -> &'a Reported<'a> {
+        if mine.epoch == self.other.epoch {
+            self.other
+        } else {
+            mine
         }
     }
-    stored
-}
 
-/// Shows Bob another entry and its tree at one epoch.
-fn show_fork<'a>(
-    rt: &impl Abort,
-    alloc: Global,
-    h: &Flawed,
-    owner: &Owner<'a>,
-    other: &Reported<'a>,
-    counts: &mut Counts,
-) {
-    let stored = chain_of_bob(rt, alloc, h, owner, other, counts);
-    for mine in owner.reported.iter().take(stored.len()) {
-        let reported = reported_bob(mine, &*other);
-        assert!(rt; refusal(rt, h, &Proof32, &stored, reported).is_none());
-        count_heads(rt, h, owner, mine, &stored, reported, counts);
+    /// Returns Bob's chain, which has another entry than Alice's at one epoch, as far as his client accepts it.
+    fn chain_of_bob(
+        &self,
+        rt: &impl Abort,
+        alloc: Global,
+        counts: &mut Counts,
+    ) -> Vec<StoredEntry> {
+        let mut stored = Vec::new(alloc);
+        for mine in &self.owner.reported {
+            let entry = self.shown_to_bob(mine).entry;
+            if !goes_on(rt, self.h, &mut stored, &None, &entry) {
+                counts.count_refused();
+                break;
+            }
+        }
+        stored
+    }
+
+    /// Shows Bob the other entry and its tree, and counts what is found.
+    fn counts(&self, rt: &impl Abort, alloc: Global) -> Counts {
+        let mut counts = NO_COUNTS;
+        let stored = self.chain_of_bob(rt, alloc, &mut counts);
+        for mine in self.owner.reported.iter().take(stored.len()) {
+            let other = self.shown_to_bob(mine);
+            assert!(rt; refusal(rt, self.h, &Proof32, &stored, other).is_none());
+            let records = Records {
+                h: self.h,
+                owner: self.owner,
+                mine,
+                stored: &stored,
+                other,
+            };
+            counts.count_heads(rt, &records);
+        }
+        counts
     }
 }
 
@@ -207,51 +246,49 @@ struct ForkCounts {
     joined: Counts,
 }
 
-/// Shows Bob each other tree at a place of Alice's chain, in an entry of its own.
-fn show_forks<'a>(
-    rt: &impl Abort,
-    alloc: Global,
-    owner: &Owner<'a>,
-    place: usize,
-    all: &'a [Shown],
-    counts: &mut ForkCounts,
-) {
-    assert!(rt; place < owner.stored.len());
-    let mine = &owner.stored[place];
-    for shown in all {
-        let entry = entry_after(&SHA256, &owner.stored[..place], &shown.root);
-        let other = Reported {
-            epoch: mine.epoch(),
-            entry,
-            reply: reply(rt, alloc, &entry, &FIRST, &shown.proof),
-            key: shown.tree.key(),
-        };
-        if entry != mine.entry {
-            let from = link(&SHA256, &Entry::read(&entry));
-            let to = link(&SHA256, &mine.entry());
-            show_fork(rt, alloc, &SHA256, owner, &other, &mut counts.apart);
-            show_fork(
-                rt,
-                alloc,
-                &colliding(from, to),
-                owner,
-                &other,
-                &mut counts.joined,
-            );
+impl<'a> World<'a> {
+    /// Returns the counts if Bob is shown `other` at its epoch, and the links are those of a hash.
+    fn fork_counts(
+        &self,
+        rt: &impl Abort,
+        alloc: Global,
+        h: &Flawed,
+        other: &Reported<'_>,
+    ) -> Counts {
+        let owner = &self.owner;
+        Fork { h, owner, other }.counts(rt, alloc)
+    }
+
+    /// Shows Bob each other tree at a place of Alice's chain, in an entry of its own.
+    fn show_forks(&self, rt: &impl Abort, alloc: Global, place: usize, counts: &mut ForkCounts) {
+        let owner = &self.owner;
+        assert!(rt; place < owner.stored.len());
+        let mine = &owner.stored[place];
+        for shown in self.all {
+            let entry = entry_after(self.h, &owner.stored[..place], &shown.root);
+            if entry == mine.entry {
+                continue;
+            }
+            let other = Reported {
+                epoch: mine.epoch(),
+                entry,
+                reply: reply(rt, alloc, &entry, &FIRST, &shown.proof),
+                key: shown.tree.key(),
+            };
+            let from = link(self.h, &Entry::read(&entry));
+            let merged = colliding(from, link(self.h, &mine.entry()));
+            let apart = self.fork_counts(rt, alloc, self.h, &other);
+            counts.apart.add(&apart);
+            let joined = self.fork_counts(rt, alloc, &merged, &other);
+            counts.joined.add(&joined);
         }
     }
-}
 
-/// Shows Bob each other entry at each place of Alice's chain.
-fn show_all_forks<'a>(
-    rt: &impl Abort,
-    alloc: Global,
-    owner: &Owner<'a>,
-    all: &'a [Shown],
-    counts: &mut ForkCounts,
-) {
-    for place in 0..owner.stored.len() {
-        show_forks(rt, alloc, owner, place, all, counts);
+    /// Shows Bob each other entry at each place of Alice's chain.
+    fn show_all_forks(&self, rt: &impl Abort, alloc: Global, counts: &mut ForkCounts) {
+        for place in 0..self.owner.stored.len() {
+            self.show_forks(rt, alloc, place, counts);
+        }
     }
 }
 
@@ -265,9 +302,10 @@ fn each_two_entries(rt: HostRuntime) {
         apart: NO_COUNTS,
         joined: NO_COUNTS,
     };
-    for history in 0..512 {
-        let owner = owner_of(&rt, alloc, &SHA256, &all, history, 3);
-        show_all_forks(&rt, alloc, &owner, &all, &mut counts);
+    for trees in 0..histories(3) {
+        let history = History { epochs: 3, trees };
+        let world = World::new(&rt, alloc, &SHA256, &all, history);
+        world.show_all_forks(&rt, alloc, &mut counts);
     }
     let wanted_apart = Counts {
         refused: 512 * 7 * 2,
@@ -304,32 +342,33 @@ impl IndexScheme for OneIndex {
     }
 }
 
-/// Shows Bob at each epoch of a history what is at the second place of the tree, as another index of `alice`.
-fn show_second(
-    rt: &impl Abort,
-    alloc: Global,
-    owner: &Owner<'_>,
-    all: &[Shown],
-    history: usize,
-    counts: &mut Counts,
-) {
-    assert!(rt; all.len() == TREES);
-    let mut rest = history;
-    for mine in &owner.reported {
-        let tree = &all[rest % TREES].tree;
-        rest /= TREES;
-        let proof = tree.second_proof(rt, alloc, &SHA256);
-        let other = Reported {
-            epoch: mine.epoch,
-            entry: mine.entry,
-            reply: reply(rt, alloc, &mine.entry, &second(), &proof),
-            key: tree.second_key(),
-        };
-        assert!(rt;
-            refusal(rt, &SHA256, &OneIndex, &owner.stored, &other) == Some(LookupFault::VrfProof)
-        );
-        assert!(rt; refusal(rt, &SHA256, &Proof32, &owner.stored, &other).is_none());
-        count_heads(rt, &SHA256, owner, mine, &owner.stored, &other, counts);
+impl<'a> World<'a> {
+    /// Shows Bob at each epoch of the history what is at the second place of the tree, as another index of `alice`.
+    fn show_second(&self, rt: &impl Abort, alloc: Global, counts: &mut Counts) {
+        let World {
+            h,
+            all,
+            history,
+            ..
+        } = self;
+        assert!(rt; all.len() == TREES);
+        let stored = &self.owner.stored;
+        let mut rest = history.trees;
+        for mine in &self.owner.reported {
+            let tree = &all[rest % TREES].tree;
+            rest /= TREES;
+            let proof = tree.second_proof(rt, alloc, *h);
+            let other = Reported {
+                epoch: mine.epoch,
+                entry: mine.entry,
+                reply: reply(rt, alloc, &mine.entry, &second(), &proof),
+                key: tree.second_key(),
+            };
+            let refused = refusal(rt, *h, &OneIndex, stored, &other);
+            assert!(rt; refused == Some(LookupFault::VrfProof));
+            assert!(rt; refusal(rt, *h, &Proof32, stored, &other).is_none());
+            self.count_heads(rt, mine, &other, counts);
+        }
     }
 }
 
@@ -343,9 +382,10 @@ fn each_second_index(rt: HostRuntime) {
     };
     let all = all_shown(&rt, alloc, &SHA256, other);
     let mut counts = NO_COUNTS;
-    for history in 0..512 {
-        let owner = owner_of(&rt, alloc, &SHA256, &all, history, 3);
-        show_second(&rt, alloc, &owner, &all, history, &mut counts);
+    for trees in 0..histories(3) {
+        let history = History { epochs: 3, trees };
+        let world = World::new(&rt, alloc, &SHA256, &all, history);
+        world.show_second(&rt, alloc, &mut counts);
     }
     let wanted = Counts {
         convicted: 512 / 4 * 6,
