@@ -18,64 +18,65 @@ void client_release(const coniks_client *client, void *block)
         memory->release(memory->context, block);
 }
 
-/* Moves the elements of an array to a block with more room. Returns NULL if there is no memory, and changes nothing then. */
-static void *moved(const coniks_client *client, void *items, size_t count, size_t room, size_t size)
+/* An array of a core. Its elements have `size` bytes. */
+struct array {
+    void *items;
+    size_t room, count, size;
+};
+
+/* Moves an array to a block with this room, if it has less. Changes nothing if there is no memory. */
+static uint32_t reserve(const coniks_client *client, struct array *array, size_t room)
 {
-    void *block = client_allocate(client, room, size);
+    void *block;
+    if (room <= array->room)
+        return 0;
+    block = client_allocate(client, room, array->size);
     if (block == NULL)
-        return NULL;
-    if (count)
-        memcpy(block, items, count * size);
-    client_release(client, items);
-    return block;
+        return CONIKS_CLIENT_E_MEMORY;
+    if (array->count)
+        memcpy(block, array->items, array->count * array->size);
+    client_release(client, array->items);
+    array->items = block;
+    array->room = room;
+    return 0;
 }
 
 static uint32_t reserve_alarms(coniks_client *client, size_t room)
 {
     coniks_alarms *alarms = &client->core.alarms;
-    coniks_alarm *items;
-    if (room <= alarms->room)
-        return 0;
-    items = moved(client, alarms->items, alarms->count, room, sizeof *items);
-    if (items == NULL)
-        return CONIKS_CLIENT_E_MEMORY;
-    alarms->items = items;
-    alarms->room = room;
-    return 0;
+    struct array array = {alarms->items, alarms->room, alarms->count, sizeof *alarms->items};
+    uint32_t status = reserve(client, &array, room);
+    alarms->items = array.items;
+    alarms->room = array.room;
+    return status;
 }
 
 /* The room for epochs doubles. There is room for the alarms first, so that a stored epoch can always be dropped. */
 uint32_t client_reserve_epochs(coniks_client *client, size_t more, size_t alarm_count)
 {
     coniks_stored *stored = &client->core.stored;
-    coniks_stored_entry *items;
+    struct array array = {stored->items, stored->room, stored->count, sizeof *stored->items};
     size_t room = stored->room;
     uint32_t status;
     if (more > room - stored->count)
         room = more > stored->count ? stored->count + more : 2 * stored->count;
     status = reserve_alarms(client, alarm_count + room);
-    if (status || room == stored->room)
+    if (status)
         return status;
-    items = moved(client, stored->items, stored->count, room, sizeof *items);
-    if (items == NULL)
-        return CONIKS_CLIENT_E_MEMORY;
-    stored->items = items;
-    stored->room = room;
-    return 0;
+    status = reserve(client, &array, room);
+    stored->items = array.items;
+    stored->room = array.room;
+    return status;
 }
 
 uint32_t client_reserve_changes(coniks_client *client, size_t room)
 {
     coniks_changes *changes = &client->core.changes;
-    coniks_change *items;
-    if (room <= changes->room)
-        return 0;
-    items = moved(client, changes->items, changes->count, room, sizeof *items);
-    if (items == NULL)
-        return CONIKS_CLIENT_E_MEMORY;
-    changes->items = items;
-    changes->room = room;
-    return 0;
+    struct array array = {changes->items, changes->room, changes->count, sizeof *changes->items};
+    uint32_t status = reserve(client, &array, room);
+    changes->items = array.items;
+    changes->room = array.room;
+    return status;
 }
 
 uint8_t *client_allocate_texts(const coniks_client *client, size_t more)
