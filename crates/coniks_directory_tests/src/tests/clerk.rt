@@ -2,12 +2,12 @@
 
 ghost use Rattle.std.specs.Prelude.{◌≡◌, [], IfErr};
 ghost use Rattle.coniks_directory.specs.Chain.{heads_of};
-ghost use Rattle.coniks_directory_tests.specs.Letters.{high as high_of, index_of_letter};
+ghost use Rattle.coniks_directory_tests.specs.Letters.{high as high_of};
 ghost use Rattle.coniks_directory.specs.Updates.{Grows, IsUpdateOf};
 
 use crate::tests::runs::{commit_next, install_next, may_sign};
 use coniks_base_tests::{NEVER, NONCE, OPENING, POLICY, Stamp};
-use coniks_chain::{Entry, Signature, Signer};
+use coniks_chain::{Entry, Sign, Signature, Signer};
 use coniks_directory::laws::updates_stay;
 use coniks_directory::{
     BatchFault, CommitFault, Directory, IndexSource, InstallFault, Op, OpKind, Prepared,
@@ -80,33 +80,22 @@ pub fn ops_of(alloc: Global, written: &[Written]) -> Result<Vec<Op>, AllocError>
     Ok(ops)
 }
 
-/// A directory over `Letters`, with its signer and its board's publisher.
+/// A directory with its signer, and its board with the publisher of its heads.
 #[derive(Drop)]
-pub struct Clerk<'a> {
+pub struct Provider<'a, H: Hash32, X: IndexSource, S> {
     pub alloc: Global,
-    pub directory: Directory<Sha256Hash, Letters>,
-    pub signer: Signer<Stamp>,
+    pub directory: Directory<H, X>,
+    pub signer: S,
     pub publisher: Publisher,
     pub board: &'a Board,
     ghost tabled: { publisher.table ≡ board.now.table },
-    ghost headed: { publisher.heads ≡ heads_of (⟦<Sha256Hash as Hash32>⟧.digest_of directory.hash) directory.state.chain },
+    ghost headed: { publisher.heads ≡ heads_of (H.digest_of directory.hash) directory.state.chain },
 }
 
-impl<'a> Clerk<'a> {
-    /// Returns a clerk of a new directory.
-    pub fn new(alloc: Global, board: &'a Board, publisher: Publisher) -> Clerk<'a>
-        requires tabled { publisher.table ≡ board.now.table }
-        requires headed { publisher.heads ≡ [] }
-    {
-        Clerk {
-            alloc,
-            directory: Directory::open(alloc, Sha256Hash, Letters, NONCE, POLICY),
-            signer: stamping(),
-            publisher,
-            board,
-        }
-    }
+/// The provider of a directory over `Letters`.
+pub type Clerk<'a> = Provider<'a, Sha256Hash, Letters, Signer<Stamp>>;
 
+impl<'a, H: Hash32 + Sync, X: IndexSource, S: Sign> Provider<'a, H, X, S> {
     /// Commits a batch at depth 1 with two workers. Returns `BatchTooLong` if the allocation of the operations fails.
     pub fn commit<R: Threads + Sync>(
         &mut self,
@@ -135,35 +124,22 @@ impl<'a> Clerk<'a> {
         if !may_sign(&self.signer) {
             return Err(CommitFault::Batch(BatchFault::BatchTooLong));
         }
-        commit_next(
-            rt,
-            &mut self.directory,
-            ops,
-            workers,
-            t,
-            &mut self.signer,
-            &mut self.publisher,
-            self.board,
-        )
+        commit_next(rt, self, ops, workers, t)
     }
+}
 
+impl<'a, H: Hash32, X: IndexSource, S: Sign> Provider<'a, H, X, S> {
     /// Installs an update.
     pub fn install(&mut self, update: Prepared, t: u64) -> Result<Entry, (InstallFault, Prepared)>
-        requires { IsUpdateOf (⟦<Sha256Hash as Hash32>⟧.digest_of self.old.directory.hash) index_of_letter self.old.directory.state update }
+        requires { IsUpdateOf (H.digest_of self.old.directory.hash) (X.index_of self.old.directory.index) self.old.directory.state update }
         ensures grows { Grows self.old.directory.state self.new.directory.state }
-        ensures still { IfErr result (λ r. IsUpdateOf (⟦<Sha256Hash as Hash32>⟧.digest_of self.new.directory.hash) index_of_letter self.new.directory.state r.1) }
+        ensures same { (self.new.directory.hash ≡ self.old.directory.hash) × (self.new.directory.index ≡ self.old.directory.index) }
+        ensures still { IfErr result (λ r. IsUpdateOf (H.digest_of self.new.directory.hash) (X.index_of self.new.directory.index) self.new.directory.state r.1) }
     {
         if !may_sign(&self.signer) {
             return Err((InstallFault::SignerRefused, update));
         }
-        install_next(
-            &mut self.directory,
-            update,
-            t,
-            &mut self.signer,
-            &mut self.publisher,
-            self.board,
-        )
+        install_next(self, update, t)
     }
 
     /// Installs an update, and then tries twice to install another one of the same base. Returns the errors of these
@@ -174,8 +150,8 @@ impl<'a> Clerk<'a> {
         second: Prepared,
         t: u64,
     ) -> Option<(InstallFault, InstallFault)>
-        requires first { IsUpdateOf (⟦<Sha256Hash as Hash32>⟧.digest_of self.old.directory.hash) index_of_letter self.old.directory.state first }
-        requires second { IsUpdateOf (⟦<Sha256Hash as Hash32>⟧.digest_of self.old.directory.hash) index_of_letter self.old.directory.state second }
+        requires first { IsUpdateOf (H.digest_of self.old.directory.hash) (X.index_of self.old.directory.index) self.old.directory.state first }
+        requires second { IsUpdateOf (H.digest_of self.old.directory.hash) (X.index_of self.old.directory.index) self.old.directory.state second }
     {
         updates_stay();
         if self.install(first, t).is_err() {
@@ -188,6 +164,26 @@ impl<'a> Clerk<'a> {
             return None;
         };
         Some((fault, again))
+    }
+}
+
+/// Returns the provider of a new directory over a source of indices.
+pub fn provider_of<'a, X: IndexSource, S: Sign>(
+    alloc: Global,
+    source: X,
+    signer: S,
+    board: &'a Board,
+    publisher: Publisher,
+) -> Provider<'a, Sha256Hash, X, S>
+    requires tabled { publisher.table ≡ board.now.table }
+    requires headed { publisher.heads ≡ [] }
+{
+    Provider {
+        alloc,
+        directory: Directory::open(alloc, Sha256Hash, source, NONCE, POLICY),
+        signer,
+        publisher,
+        board,
     }
 }
 
@@ -213,6 +209,6 @@ pub fn with_clerk<T, F: FnOnce(&mut Clerk) -> T, R: Abort + AllocGlobal>(
     requires { F.IsAlwaysCallable steps }
 {
     let (board, publisher) = new_board(rt, rt.alloc(), heads);
-    let mut clerk = Clerk::new(rt.alloc(), &board, publisher);
+    let mut clerk = provider_of(rt.alloc(), Letters, stamping(), &board, publisher);
     steps(&mut clerk)
 }

@@ -4,8 +4,10 @@ ghost use Rattle.std.specs.Prelude.{◌≡◌, ◌++◌};
 ghost use Rattle.coniks_proof.specs.Sha256.{sha256};
 
 use crate::tests::answers::{Reported, requested};
-use crate::tests::clerk::{A, B, Clerk, Letters, Written, ops_of, stamping, with_clerk};
-use crate::tests::runs::{install_next, may_sign, prepare_next};
+use crate::tests::clerk::{
+    A, B, Clerk, Letters, Written, ops_of, provider_of, stamping, with_clerk,
+};
+use crate::tests::runs::prepare_next;
 use coniks_base_tests::{NONCE, OPENING, POLICY};
 use coniks_chain::{Body, Sign, Signature, SignatureSource, Signer, Verify};
 use coniks_directory::OpKind::{Change, Register};
@@ -34,10 +36,17 @@ impl<'a> IndexSource for Requested<'a> {
     }
 }
 
-/// Returns an operation whose name and key have a given number of bytes `b`, at most 16,385.
-fn sized(rt: &impl Abort, alloc: Global, name: usize, key: usize) -> Op {
+/// The lengths of a name and a key, at most 16,385.
+#[derive(Clone, Copy)]
+struct Lengths {
+    name: usize,
+    key: usize,
+}
+
+/// Returns an operation whose name and key are bytes `b` of these lengths.
+fn sized(rt: &impl Abort, alloc: Global, lengths: Lengths) -> Op {
     let letters = [b'b'; 16_385];
-    let (name, key) = (letters.get(..name), letters.get(..key));
+    let (name, key) = (letters.get(..lengths.name), letters.get(..lengths.key));
     Op {
         kind: Register,
         name: Bytes::copy_of(alloc, name.unwrap_or(&[])).expect(rt, "memory"),
@@ -58,7 +67,7 @@ fn requested_once(rt: HostRuntime) {
     let mut directory = Directory::open(alloc, Sha256Hash, source, NONCE, POLICY);
     for (name, key, requested) in [(256, 1, 0), (0, 1, 0), (1, 16_385, 0), (255, 16_384, 1)] {
         calls.set(0);
-        let ops = [sized(&rt, alloc, name, key)];
+        let ops = [sized(&rt, alloc, Lengths { name, key })];
         let is_taken = directory.prepare(&rt, &ops, 0, 1, &Open).is_ok();
         assert!(rt; is_taken == (requested == 1));
         assert!(rt; calls.get() == requested);
@@ -153,59 +162,40 @@ impl SignatureSource for Desk {
     }
 }
 
+/// Stores the signature that a signer returns next.
+fn arrive(signer: &mut Signer<Desk>, signature: Signature) {
+    signer.source.arrived = Some(signature);
+}
+
 /// The signer stores the body and refuses. It refuses the signature of another body too. The update that came back is
 /// installed with the body's own signature.
 #[test]
 fn signed_outside(rt: HostRuntime) {
-    let mut signer = Signer::new(Desk {
+    let signer = Signer::new(Desk {
         wanted: None,
         arrived: None,
     });
-    let (board, mut publisher) = Board::new(rt.alloc(), 1).expect(&rt, "a board");
-    let mut directory = Directory::open(rt.alloc(), Sha256Hash, Letters, NONCE, POLICY);
+    let (board, publisher) = Board::new(rt.alloc(), 1).expect(&rt, "a board");
+    let mut provider = provider_of(rt.alloc(), Letters, signer, &board, publisher);
     let ops = ops_of(rt.alloc(), &[A]).expect(&rt, "operations");
-    let update = prepare_next(&rt, &directory, None, &ops, 1).ok();
+    let update = prepare_next(&rt, &provider.directory, None, &ops, 1).ok();
     let update = update.expect(&rt, "an update");
 
-    assert!(rt; may_sign(&signer));
-    let refused = install_next(
-        &mut directory,
-        update,
-        1,
-        &mut signer,
-        &mut publisher,
-        &board,
-    );
-    let (fault, update) = refused.err().expect(&rt, "a refusal");
+    let refused = provider.install(update, 1).err();
+    let (fault, update) = refused.expect(&rt, "a refusal");
     assert!(rt; fault == InstallFault::SignerRefused);
-    let body = signer.source.wanted.expect(&rt, "a body");
+    let body = provider.signer.source.wanted.expect(&rt, "a body");
 
-    signer.source.arrived = Some(made_outside(&[0; 145]));
-    assert!(rt; may_sign(&signer));
-    let refused = install_next(
-        &mut directory,
-        update,
-        1,
-        &mut signer,
-        &mut publisher,
-        &board,
-    );
-    let (fault, update) = refused.err().expect(&rt, "a refusal");
-    assert!(rt; fault == InstallFault::SignerRefused && directory.chain().is_empty());
+    arrive(&mut provider.signer, made_outside(&[0; 145]));
+    let refused = provider.install(update, 1).err();
+    let (fault, update) = refused.expect(&rt, "a refusal");
+    assert!(rt; fault == InstallFault::SignerRefused && provider.directory.chain().is_empty());
 
-    signer.source.arrived = Some(made_outside(&body));
-    assert!(rt; may_sign(&signer));
-    let entry = install_next(
-        &mut directory,
-        update,
-        1,
-        &mut signer,
-        &mut publisher,
-        &board,
-    );
-    let entry = entry.ok().expect(&rt, "an entry");
+    arrive(&mut provider.signer, made_outside(&body));
+    let entry = provider.install(update, 1).ok();
+    let entry = entry.expect(&rt, "an entry");
     assert!(rt; entry.body == Body::read(&body) && entry.signature == made_outside(&body));
-    assert!(rt; (signer.made(), signer.refused()) == (1, 2));
+    assert!(rt; (provider.signer.made(), provider.signer.refused()) == (1, 2));
 }
 
 /// Commits before and after two updates from one base, and looks up the name that the second one changes.

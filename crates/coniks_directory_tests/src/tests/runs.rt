@@ -2,9 +2,8 @@
 
 ghost use Rattle.std.specs.Prelude.{◌≡◌, ◌<◌, ◌-◌, ◌^◌, ◌++◌, [], ◌∷◌, ℕ, List, Option, None, IfErr, IfOk, OnErr, OnOk, length, option_map, true};
 ghost use Rattle.coniks_directory.specs.Batches.{operations};
-ghost use Rattle.coniks_directory.specs.Chain.{heads_of};
 ghost use Rattle.coniks_directory.specs.History.{root_at, shown_at};
-ghost use Rattle.coniks_directory.specs.Installs.{IsNextEntry, IsReady};
+ghost use Rattle.coniks_directory.specs.Installs.{IsNextEntry};
 ghost use Rattle.coniks_directory.specs.Lookups.{IsAcceptedAt};
 ghost use Rattle.coniks_directory.specs.Runs.{Batch, IsPreparedOf, Run, Start, defined, restoring};
 ghost use Rattle.coniks_directory.specs.State.{State};
@@ -15,7 +14,7 @@ ghost use Rattle.coniks_directory.specs.Updates.{Grows, IsUpdateOf, registry_aft
 ghost use Rattle.coniks_proof.specs.Batches.{Operation};
 ghost use Rattle.coniks_proof.specs.Octets.{Octets};
 
-use crate::tests::clerk::{A, B, Clerk, Letters, Written, ops_of, with_clerk};
+use crate::tests::clerk::{A, B, Clerk, Letters, Provider, Written, ops_of, with_clerk};
 use coniks_base_tests::{NEW_NONCE, digest};
 use coniks_chain::{Entry, Sign};
 use coniks_directory::OpKind::{Change, Register};
@@ -28,7 +27,7 @@ use coniks_directory::{
     SupplyFault, SupplyIndex,
 };
 use coniks_proof::{Digest, Hash32, Index, Nonce, Proof, Sha256Hash};
-use coniks_threads::{Board, Open, Parallelism, Publisher};
+use coniks_threads::{Open, Parallelism};
 use std::process::Abort;
 use std::thread::Threads;
 
@@ -61,31 +60,33 @@ pub fn prepare_next<H: Hash32 + Sync, X: IndexSource, R: Threads + Sync>(
 /// Calls `install`, which adds one batch to a run, whatever was called after the update was prepared.
 #[tactic(auto, using(crate::proofs::RunSteps::handed_back))]
 pub fn install_next<H: Hash32, X: IndexSource, S: Sign>(
-    directory: &mut Directory<H, X>,
+    provider: &mut Provider<'_, H, X, S>,
     update: Prepared,
     t: u64,
-    signer: &mut S,
-    publisher: &mut Publisher,
-    board: &Board,
 ) -> Result<Entry, (InstallFault, Prepared)>
-    requires update { IsUpdateOf (H.digest_of directory.old.hash) (X.index_of directory.old.index) directory.old.state update }
-    requires ready { IsReady H.digest_of S.made_of S.refused_of directory.old signer.old publisher.old board.now }
+    requires update { IsUpdateOf (H.digest_of provider.old.directory.hash) (X.index_of provider.old.directory.index) provider.old.directory.state update }
+    requires countable { (S.made_of provider.old.signer < 2 ^ 64 - 1) × (S.refused_of provider.old.signer < 2 ^ 64 - 1) }
     ensures run { OnOk result ((then : Octets → Octets) (start : Start) (batches : List Batch)
         (earlier : State) (new_nonce : Option Octets) (ops : List Operation) (depth workers : ℕ)
-        → Run (H.digest_of directory.old.hash) (X.index_of directory.old.index) start batches directory.old.state
-        → IsPreparedOf (H.digest_of directory.old.hash) then earlier new_nonce ops depth workers update
-        → AgreeOn then (X.index_of directory.old.index) (registry_after earlier update)
-        → Grows earlier directory.old.state
-        → Run (H.digest_of directory.new.hash) (X.index_of directory.new.index) start
-        (batches ++ record { t = t; new_nonce = new_nonce; ops = ops } ∷ []) directory.new.state) }
-    ensures heads { publisher.new.heads ≡ heads_of (H.digest_of directory.new.hash) directory.new.state.chain }
-    ensures table { publisher.new.table ≡ publisher.old.table }
-    ensures hash { directory.new.hash ≡ directory.old.hash }
-    ensures grows { Grows directory.old.state directory.new.state }
-    ensures unchanged { OnErr result ((directory.new ≡ directory.old) × (publisher.new ≡ publisher.old)) }
+        → Run (H.digest_of provider.old.directory.hash) (X.index_of provider.old.directory.index) start batches provider.old.directory.state
+        → IsPreparedOf (H.digest_of provider.old.directory.hash) then earlier new_nonce ops depth workers update
+        → AgreeOn then (X.index_of provider.old.directory.index) (registry_after earlier update)
+        → Grows earlier provider.old.directory.state
+        → Run (H.digest_of provider.new.directory.hash) (X.index_of provider.new.directory.index) start
+        (batches ++ record { t = t; new_nonce = new_nonce; ops = ops } ∷ []) provider.new.directory.state) }
+    ensures table { provider.new.board.now.table ≡ provider.old.board.now.table }
+    ensures same { (provider.new.directory.hash ≡ provider.old.directory.hash) × (provider.new.directory.index ≡ provider.old.directory.index) }
+    ensures grows { Grows provider.old.directory.state provider.new.directory.state }
+    ensures unchanged { OnErr result ((provider.new.directory ≡ provider.old.directory) × (provider.new.publisher ≡ provider.old.publisher)) }
     ensures back { IfErr result (λ r. r.1 ≡ update) }
 {
-    directory.install(update, t, signer, publisher, board)
+    provider.directory.install(
+        update,
+        t,
+        &mut provider.signer,
+        &mut provider.publisher,
+        provider.board,
+    )
 }
 
 /// Calls `prepare_owned`. Any run can install the update later.
@@ -146,23 +147,29 @@ pub fn supply_next<H: Hash32, X: SupplyIndex>(
 /// Calls `commit` at depth 1, which adds one batch to a run.
 pub fn commit_next<H: Hash32 + Sync, X: IndexSource, S: Sign, R: Threads + Sync>(
     rt: &R,
-    directory: &mut Directory<H, X>,
+    provider: &mut Provider<'_, H, X, S>,
     ops: &[Op],
     workers: usize,
     t: u64,
-    signer: &mut S,
-    publisher: &mut Publisher,
-    board: &Board,
 ) -> Result<Entry, CommitFault>
-    requires ready { IsReady H.digest_of S.made_of S.refused_of directory.old signer.old publisher.old board.now }
+    requires countable { (S.made_of provider.old.signer < 2 ^ 64 - 1) × (S.refused_of provider.old.signer < 2 ^ 64 - 1) }
     ensures run { OnOk result ((start : Start) (batches : List Batch)
-        → Run (H.digest_of directory.old.hash) (X.index_of directory.old.index) start batches directory.old.state
-        → Run (H.digest_of directory.new.hash) (X.index_of directory.new.index) start
-        (batches ++ record { t = t; new_nonce = None; ops = operations ops.now } ∷ []) directory.new.state) }
-    ensures heads { publisher.new.heads ≡ heads_of (H.digest_of directory.new.hash) directory.new.state.chain }
-    ensures table { publisher.new.table ≡ publisher.old.table }
+        → Run (H.digest_of provider.old.directory.hash) (X.index_of provider.old.directory.index) start batches provider.old.directory.state
+        → Run (H.digest_of provider.new.directory.hash) (X.index_of provider.new.directory.index) start
+        (batches ++ record { t = t; new_nonce = None; ops = operations ops.now } ∷ []) provider.new.directory.state) }
+    ensures table { provider.new.board.now.table ≡ provider.old.board.now.table }
 {
-    directory.commit(rt, ops, 1, workers, &Open, t, signer, publisher, board)
+    provider.directory.commit(
+        rt,
+        ops,
+        1,
+        workers,
+        &Open,
+        t,
+        &mut provider.signer,
+        &mut provider.publisher,
+        provider.board,
+    )
 }
 
 /// Calls `finish`, with which the run of a restored directory begins.

@@ -1,13 +1,10 @@
 //! Workers that do the jobs of one batch.
 
-ghost use Rattle.std.specs.Prelude.{◌≤◌};
-ghost use Rattle.coniks_threads.specs.Limits.{deepest_cut, most_workers};
-
 use coniks_base_tests::{
     Bound, Meeting, NONCE, changes_to, digest, index_below, index_of, records_of,
 };
 use coniks_proof::{Digest, Hash32, Sha256Hash};
-use coniks_threads::{Gate, build, split};
+use coniks_threads::{Gate, Parallelism, build, split};
 use coniks_tree::{Change, OutOfMemory, Tree};
 use std::alloc::{AllocError, Global};
 use std::sync::atomic::{AtomicU64, Ordering};
@@ -33,18 +30,16 @@ fn changes_of(alloc: Global, bindings: &[Bound]) -> Result<Vec<Change>, AllocErr
 }
 
 /// Returns the number of nodes of a first epoch with these changes, and its root's hash.
-fn first_epoch<H: Hash32 + Sync, G: Gate + Sync, R: Threads + Sync>(
+fn first_epoch<H: Hash32 + Sync, G: Gate + Sync, R: Threads + Sync + AllocGlobal>(
     rt: &R,
-    alloc: Global,
     h: &H,
     changes: &[Change],
-    depth: usize,
-    workers: usize,
+    parallelism: Parallelism,
     gate: &G,
-) -> Result<(usize, Digest), OutOfMemory>
-    requires { (depth ≤ deepest_cut) × (1 ≤ workers) × (workers ≤ most_workers) }
-{
+) -> Result<(usize, Digest), OutOfMemory> {
+    let alloc = rt.alloc();
     let tree = Tree::new(alloc);
+    let (depth, workers) = (parallelism.depth(), parallelism.workers());
     let part = build(
         rt, alloc, h, &NONCE, &tree, None, changes, depth, workers, gate,
     )?;
@@ -60,7 +55,8 @@ fn two_jobs_at_once(rt: HostRuntime) {
     ];
     let changes = changes_of(rt.alloc(), &both).expect(&rt, "memory");
     let gate = Meeting::of(2);
-    let built = first_epoch(&rt, rt.alloc(), &Sha256Hash, &changes, 1, 2, &gate);
+    let parallelism = Parallelism::nearest(2, 1);
+    let built = first_epoch(&rt, &Sha256Hash, &changes, parallelism, &gate);
     assert!(rt; gate.met());
     let want = "46de554c28df523fe8bbcbf7cf90c45cc1f44d29be6fc4bf4fa5fd416437b6ba";
     assert!(rt; built.expect(&rt, "memory") == (3, digest(want)));
@@ -71,7 +67,8 @@ fn two_jobs_at_once(rt: HostRuntime) {
 fn draws_move(rt: HostRuntime) {
     let changes = changes_of(rt.alloc(), &four()).expect(&rt, "memory");
     let gate = Meeting::of(4);
-    let built = first_epoch(&rt, rt.alloc(), &Sha256Hash, &changes, 8, 2, &gate);
+    let parallelism = Parallelism::nearest(2, 8);
+    let built = first_epoch(&rt, &Sha256Hash, &changes, parallelism, &gate);
     assert!(rt; gate.met());
     assert!(rt; built.expect(&rt, "memory") == (7, digest(OF_FOUR)));
 }
@@ -132,15 +129,8 @@ fn gate_before_job(rt: HostRuntime) {
             came: [0; 4].map(|count| AtomicU64::new(count)),
             wrong: AtomicU64::new(0),
         };
-        let built = first_epoch(
-            &rt,
-            rt.alloc(),
-            &Watched(&gate),
-            &changes,
-            8,
-            workers,
-            &gate,
-        );
+        let parallelism = Parallelism::nearest(workers, 8);
+        let built = first_epoch(&rt, &Watched(&gate), &changes, parallelism, &gate);
         assert!(rt; built.expect(&rt, "memory") == (7, digest(OF_FOUR)));
         assert!(rt; gate.wrong.load(Ordering::SeqCst) == 0);
         for count in &gate.came {
@@ -185,15 +175,8 @@ fn jobs_of_each_worker(rt: HostRuntime) {
         (64, 0, 1),
     ] {
         let gate = Jobs(AtomicU64::new(0));
-        let built = first_epoch(
-            &rt,
-            rt.alloc(),
-            &Sha256Hash,
-            &changes,
-            depth,
-            workers,
-            &gate,
-        );
+        let parallelism = Parallelism::nearest(workers, depth);
+        let built = first_epoch(&rt, &Sha256Hash, &changes, parallelism, &gate);
         assert!(rt; built.expect(&rt, "memory") == (8191, digest(want)));
         let count = gate.0.load(Ordering::SeqCst);
         assert!(rt;

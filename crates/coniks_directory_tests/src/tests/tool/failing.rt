@@ -1,8 +1,6 @@
 //! Streams that fail: the exit statuses and the error texts. And arguments that no file of cases can contain.
 
-use crate::tests::tool::scripts::{
-    ANSWERED, AUDIT, AUDITED, CHANGED, CHECKED, ENTRIES, LOOKUP, MONITOR, SCRIPT,
-};
+use crate::tests::tool::scripts::{AUDIT, CHECK, MONITOR, Run, SCRIPT};
 use coniks_base_tests::{FailIn, FailOut, NEVER, Stop};
 use coniks_tool::{MemoryIn, MemoryOut, program};
 use std::alloc::Global;
@@ -20,15 +18,8 @@ enum Way {
     Stalls,
 }
 
-/// The arguments and the input of a run that ends with status 1, and its whole output.
-type Given<'a> = (&'a [&'a str], &'a str, &'a str);
-
-const RUNS: [Given<'static>; 4] = [
-    (&["keydir", "run"], SCRIPT, ANSWERED),
-    (&["keydir", "check"], LOOKUP, CHECKED),
-    (&AUDIT, ENTRIES, AUDITED),
-    (&MONITOR, LOOKUP, CHANGED),
-];
+/// Runs that end with status 1.
+const RUNS: [Run; 4] = [SCRIPT, CHECK, AUDIT, MONITOR];
 
 /// Returns whether the output is a prefix of the whole. If a read failed, the output must be whole lines.
 fn is_part(output: &[u8], whole: &[u8], way: Way) -> bool {
@@ -40,7 +31,7 @@ fn is_part(output: &[u8], whole: &[u8], way: Way) -> bool {
 /// text, any other with status 1, the whole output and no error text.
 fn status_cut(
     rt: &(impl Threads + Abort + Sync + AllocGlobal),
-    (words, input, whole): Given<'_>,
+    run: Run,
     way: Way,
     call: u64,
     piece: usize,
@@ -51,12 +42,12 @@ fn status_cut(
         Way::Writes => (NEVER, call, Stop::Fails, "keydir: write failed\n"),
         Way::Stalls => (NEVER, call, Stop::Stalls, "keydir: write failed\n"),
     };
-    let input = Vec::from_slice(alloc, input.as_bytes()).expect(rt, "memory");
-    let whole = whole.as_bytes();
+    let input = Vec::from_slice(alloc, run.input.as_bytes()).expect(rt, "memory");
+    let whole = run.output.as_bytes();
     let mut reader = FailIn::new(input, piece, reads);
     let mut output = FailOut::new(Vec::new(alloc), piece, writes, stop);
     let mut errors = MemoryOut::new(alloc);
-    let status = program(rt, alloc, words, &mut reader, &mut output, &mut errors);
+    let status = program(rt, alloc, run.words, &mut reader, &mut output, &mut errors);
     let is_so = if reader.is_met() || output.is_met() {
         let is_reported = errors.bytes() == text.as_bytes();
         status == 3 && is_reported && is_part(&output.bytes, whole, way)
@@ -69,15 +60,15 @@ fn status_cut(
 /// A run ends with status 3 if any read, write or flush fails, or any write takes 0 bytes, and with status 1 otherwise.
 #[test]
 fn one_failing_call(rt: HostRuntime) {
-    for given in RUNS {
+    for run in RUNS {
         for way in [Way::Reads, Way::Writes, Way::Stalls] {
             let mut found = Some(3);
             for call in 0..1000 {
                 if found == Some(3) {
-                    found = status_cut(&rt, given, way, call, 64);
+                    found = status_cut(&rt, run, way, call, 64);
                 }
             }
-            assert!(rt; found == Some(1), "{:?}, {way:?}", given.0);
+            assert!(rt; found == Some(1), "{:?}, {way:?}", run.words);
         }
     }
 }
@@ -85,9 +76,9 @@ fn one_failing_call(rt: HostRuntime) {
 /// A run writes the same output over streams that move one byte per call.
 #[test]
 fn byte_by_byte(rt: HostRuntime) {
-    for given in RUNS {
-        let found = status_cut(&rt, given, Way::Reads, NEVER, 1);
-        assert!(rt; found == Some(1), "{:?}", given.0);
+    for run in RUNS {
+        let found = status_cut(&rt, run, Way::Reads, NEVER, 1);
+        assert!(rt; found == Some(1), "{:?}", run.words);
     }
 }
 
@@ -111,13 +102,13 @@ fn ends_unreported(
 /// `clap`'s error text.
 #[test]
 fn failing_errors(rt: HostRuntime) {
-    const CASES: [(&[&str], u8); 4] = [
+    let cases: [(&[&str], u8); 4] = [
         (&["keydir", "walk"], 2),
         (&["keydir", "run"], 3),
         (&[], 2),
-        (&AUDIT, 3),
+        (AUDIT.words, 3),
     ];
-    for (words, status) in &CASES {
+    for (words, status) in &cases {
         for calls in [0, 3] {
             assert!(rt;
                 ends_unreported(&rt, rt.alloc(), *words, calls, *status),

@@ -1,6 +1,6 @@
 //! Allocations that fail in `run_script`.
 
-use crate::tests::tool::scripts::{ANSWERED, SCRIPT};
+use crate::tests::tool::scripts::SCRIPT;
 use coniks_base_tests::{FailOut, NEVER, Stop};
 use coniks_tool::{MemoryIn, RunFault, run_script};
 use std::alloc::Global;
@@ -9,24 +9,24 @@ use std::thread::Threads;
 
 /// Copies the script, and tries once more if an allocation fails.
 fn script(rt: &impl Abort, alloc: Global) -> Vec<u8> {
-    match Vec::from_slice(alloc, SCRIPT.as_bytes()) {
+    match Vec::from_slice(alloc, SCRIPT.input.as_bytes()) {
         Ok(script) => script,
-        Err(_) => Vec::from_slice(alloc, SCRIPT.as_bytes()).expect(rt, "memory"),
+        Err(_) => Vec::from_slice(alloc, SCRIPT.input.as_bytes()).expect(rt, "memory"),
     }
 }
 
 /// Returns a buffer for the whole output, and tries once more if an allocation fails.
 fn room(rt: &impl Abort, alloc: Global) -> Vec<u8> {
-    match Vec::with_capacity(alloc, ANSWERED.len()) {
+    match Vec::with_capacity(alloc, SCRIPT.output.len()) {
         Ok(room) => room,
-        Err(_) => Vec::with_capacity(alloc, ANSWERED.len()).expect(rt, "memory"),
+        Err(_) => Vec::with_capacity(alloc, SCRIPT.output.len()).expect(rt, "memory"),
     }
 }
 
 /// Returns whether the output matches the result of a run. It is the whole output, whole lines of it after
 /// `OutOfMemory`, or nothing after `NoBoard`.
 fn is_written(ran: &Result<bool, RunFault>, written: &[u8]) -> bool {
-    let whole = ANSWERED.as_bytes();
+    let whole = SCRIPT.output.as_bytes();
     match ran {
         Ok(all) => !*all && written == whole,
         Err(RunFault::OutOfMemory) => {
