@@ -9,7 +9,6 @@ use crate::soak::reading::wrong_lookups;
 use anyhow::Result;
 use coniks_base_tests::{Watch, watch_each, watches_of};
 use coniks_chain::Entry;
-use coniks_directory::Op;
 use coniks_threads::Board;
 use std::alloc::{AllocError, Global};
 use std::sync::atomic::{AtomicU64, Ordering};
@@ -50,27 +49,32 @@ fn wrong_of_readers<R: Threads + Sync>(
     Ok(wrong)
 }
 
-/// Prepares the batch of an epoch while readers look names up, and installs it. Returns the number of wrong results.
+/// Prepares the batch of the epoch after `latest` while readers look names up, and installs it. Returns the number of
+/// wrong results.
 fn round<R: Threads + Sync>(
     rt: &R,
     alloc: Global,
     provider: &mut Provider<'_>,
-    t: u64,
     plan: &Plan,
-    ops: &[Op],
+    latest: u64,
 ) -> u64
     ensures { provider.new.board.now.table ≡ provider.old.board.now.table }
 {
+    let first = latest.wrapping_mul(plan.batch as u64);
+    let Ok(ops) = registrations(alloc, first, plan.batch) else {
+        return 1;
+    };
     let directory = &provider.directory;
     let (update, wrong) = thread::join(
         rt,
-        || prepared(rt, directory, ops, plan.workers),
-        || wrong_of_readers(rt, alloc, directory, t.wrapping_sub(1), plan).unwrap_or(1),
+        || prepared(rt, directory, &ops, plan.workers),
+        || wrong_of_readers(rt, alloc, directory, latest, plan).unwrap_or(1),
     );
-    match update {
-        Some(update) => wrong.wrapping_add(provider.install(update, t).is_none() as u64),
-        None => wrong.wrapping_add(1),
-    }
+    let Some(update) = update else {
+        return wrong.wrapping_add(1);
+    };
+    let installed = provider.install(update, latest.wrapping_add(1));
+    wrong.wrapping_add(installed.is_none() as u64)
 }
 
 /// Commits all epochs, then sets the flag that ends the watchers. Returns the number of wrong results.
@@ -84,13 +88,8 @@ fn commit_all<R: Threads + Sync>(
     ensures { provider.new.board.now.table ≡ provider.old.board.now.table }
 {
     let mut wrong = 0u64;
-    for place in 0..plan.epochs as u64 {
-        let first = place.wrapping_mul(plan.batch as u64);
-        let of_round = match registrations(alloc, first, plan.batch) {
-            Ok(ops) => round(rt, alloc, provider, place.wrapping_add(1), plan, &ops),
-            Err(_) => 1,
-        };
-        wrong = wrong.wrapping_add(of_round);
+    for latest in 0..plan.epochs as u64 {
+        wrong = wrong.wrapping_add(round(rt, alloc, provider, plan, latest));
     }
     over.store(1, Ordering::SeqCst);
     wrong
