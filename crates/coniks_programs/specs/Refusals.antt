@@ -5,7 +5,7 @@ use Rattle.coniks_proof.specs.Batches.{Fault}
 use Rattle.coniks_directory.specs.Batches.{fault_is}
 use Rattle.coniks_directory.specs.declared.batch.BatchFault.{BatchFault}
 use Rattle.coniks_directory.specs.declared.batch.BatchFault.TheVariants as batch
-use Rattle.coniks_programs.specs.Replies.{bad_member_data, bad_operation_data, epoch_not_later_data, fault_data, fault_name, member_name, placed_fault_data}
+use Rattle.coniks_programs.specs.Replies.{bad_element_data, bad_member_data, epoch_not_later_data, fault_data, fault_name, member_name, placed_fault_data}
 use Rattle.coniks_programs.specs.declared.printing.Member.{Member}
 use Rattle.coniks_programs.specs.declared.refusal.Refusal.{Refusal as Reason}
 use Rattle.coniks_programs.specs.declared.refusal.Refusal.TheVariants as reason
@@ -18,8 +18,8 @@ pub data Refusal : Type 0 where
   no_command : Refusal
   -- a member is missing, of another kind or of a wrong text
   bad_member : Member → Refusal
-  -- the element of `ops` at this place is no operation
-  bad_operation : (place : ℕ) → Refusal
+  -- the element of this member at this place is no operation, or no binding
+  bad_element : Member → (place : ℕ) → Refusal
   -- the directory isn't open yet
   not_open : Refusal
   -- the directory is open already, or a restore has begun
@@ -41,7 +41,7 @@ abbrev pub refusal_of : Reason → Refusal
 refusal_of reason.NotJson = not_json
 refusal_of reason.NoCommand = no_command
 refusal_of (reason.BadMember m) = bad_member m
-refusal_of (reason.BadOperation place) = bad_operation place
+refusal_of (reason.BadElement m place) = bad_element m place
 refusal_of reason.NotOpen = not_open
 refusal_of reason.AlreadyOpen = already_open
 refusal_of reason.BatchTooLong = batch_too_long
@@ -56,7 +56,7 @@ abbrev pub refusal_data : Refusal → Data
 refusal_data not_json = fault_data (codes "Json")
 refusal_data no_command = fault_data (codes "Command")
 refusal_data (bad_member m) = bad_member_data (member_name m)
-refusal_data (bad_operation place) = bad_operation_data place
+refusal_data (bad_element m place) = bad_element_data (member_name m) place
 refusal_data not_open = fault_data (codes "NotOpen")
 refusal_data already_open = fault_data (codes "AlreadyOpen")
 refusal_data batch_too_long = fault_data (codes "BatchTooLong")

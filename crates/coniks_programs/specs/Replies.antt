@@ -27,6 +27,16 @@ member_name named.Signature = codes "signature"
 member_name named.After = codes "after"
 member_name named.Most = codes "most"
 member_name named.Bindings = codes "bindings"
+member_name named.Log = codes "log"
+member_name named.Link = codes "link"
+member_name named.Body = codes "body"
+member_name named.Snapshot = codes "snapshot"
+member_name named.Position = codes "position"
+member_name named.Epochs = codes "epochs"
+member_name named.Names = codes "names"
+member_name named.Entries = codes "entries"
+member_name named.Replaced = codes "replaced"
+member_name named.First = codes "first"
 
 -- the name of an operation's error
 abbrev pub fault_name : Fault → Octets
@@ -58,12 +68,12 @@ bad_member_data name =
     (member (codes "fault") (string (codes "Member"))
     (member (codes "member") (string name) no_members))
 
--- {"fault":"Member","member":"ops","position":NUM}
-abbrev pub bad_operation_data : ℕ → Data
-bad_operation_data place =
+-- {"fault":"Member","member":NAME,"position":NUM}
+abbrev pub bad_element_data : Octets → ℕ → Data
+bad_element_data name place =
     object
     (member (codes "fault") (string (codes "Member"))
-    (member (codes "member") (string (codes "ops"))
+    (member (codes "member") (string name)
     (member (codes "position") (number (unsigned place)) no_members)))
 
 -- {"fault":"EpochNotLater","latest":NUM}

@@ -19,7 +19,7 @@ pub mod running;
 pub mod telling;
 
 pub use arguments::{Unread, words};
-pub use command_line::CommandLine;
+pub use command_line::{CommandLine, Host};
 pub use commands::{number_option, with_below, with_default, with_option};
 pub use ending::{Ending, status};
 pub use explaining::{end_unrun, explain};

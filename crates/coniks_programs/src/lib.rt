@@ -13,6 +13,7 @@
 //! ```
 #![tactic(auto)]
 
+pub mod builders;
 pub mod cli;
 mod digits;
 pub mod entries;

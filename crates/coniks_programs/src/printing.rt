@@ -27,6 +27,16 @@ pub enum Member {
     After,
     Most,
     Bindings,
+    Log,
+    Link,
+    Body,
+    Snapshot,
+    Position,
+    Epochs,
+    Names,
+    Entries,
+    Replaced,
+    First,
 }
 
 /// Returns the name of a member.
@@ -48,6 +58,16 @@ pub fn member_text(member: Member) -> &'static str
         Member::After => "after",
         Member::Most => "most",
         Member::Bindings => "bindings",
+        Member::Log => "log",
+        Member::Link => "link",
+        Member::Body => "body",
+        Member::Snapshot => "snapshot",
+        Member::Position => "position",
+        Member::Epochs => "epochs",
+        Member::Names => "names",
+        Member::Entries => "entries",
+        Member::Replaced => "replaced",
+        Member::First => "first",
     }
 }
 

@@ -6,7 +6,7 @@ ghost use Rattle.coniks_programs.specs.Refusals.{IsRefusable, refusal_data, refu
 
 use crate::printable::Printable;
 use crate::printing::{Member, bad_member, fault, member_text};
-use crate::replies::{bad_operation, epoch_not_later, fault_text, placed_fault};
+use crate::replies::{bad_element, epoch_not_later, fault_text, placed_fault};
 use coniks_directory::{BatchFault, OpFault};
 use std::alloc::{AllocError, Global};
 
@@ -19,8 +19,8 @@ pub enum Refusal {
     NoCommand,
     /// A member is missing, of another kind or of a wrong text.
     BadMember(Member),
-    /// The element of `ops` at this position is no operation.
-    BadOperation(usize),
+    /// The element of this member at this position is no operation, or no binding.
+    BadElement(Member, usize),
     /// The directory is not open.
     NotOpen,
     /// The directory is open already, or a restore has begun.
@@ -52,7 +52,7 @@ impl Refusal {
             Refusal::NotJson => fault(alloc, "Json"),
             Refusal::NoCommand => fault(alloc, "Command"),
             Refusal::BadMember(member) => bad_member(alloc, member_text(member)),
-            Refusal::BadOperation(place) => bad_operation(alloc, place),
+            Refusal::BadElement(member, place) => bad_element(alloc, member_text(member), place),
             Refusal::NotOpen => fault(alloc, "NotOpen"),
             Refusal::AlreadyOpen => fault(alloc, "AlreadyOpen"),
             Refusal::BatchTooLong => fault(alloc, "BatchTooLong"),

@@ -4,7 +4,7 @@ ghost use Rattle.std.specs.Prelude.{◌≡◌, IfOk};
 ghost use Rattle.serde_json.specs.Written.{compact_text};
 ghost use Rattle.coniks_directory.specs.Batches.{fault_is};
 ghost use Rattle.coniks_programs.specs.Paths.{path_of};
-ghost use Rattle.coniks_programs.specs.Replies.{bad_operation_data, epoch_not_later_data, fault_name, looked_up_data, opened_data, placed_fault_data};
+ghost use Rattle.coniks_programs.specs.Replies.{bad_element_data, epoch_not_later_data, fault_name, looked_up_data, opened_data, placed_fault_data};
 
 use crate::objects::{Field, Shown, object};
 use crate::printable::Printable;
@@ -82,19 +82,19 @@ pub fn placed_fault(alloc: Global, name: &str, position: usize) -> Result<Printa
     )
 }
 
-/// Returns the refusal of a batch line whose element of `ops` at a position is no operation.
+/// Returns the refusal of a line whose element of this member at a position is no operation, or no binding.
 ///
 /// # Errors
 ///
 /// `AllocError` if an allocation fails.
-pub fn bad_operation(alloc: Global, position: usize) -> Result<Printable, AllocError>
-    ensures { IfOk result (λ object. object.text.items ≡ compact_text (bad_operation_data position)) }
+pub fn bad_element(alloc: Global, member: &str, position: usize) -> Result<Printable, AllocError>
+    ensures { IfOk result (λ object. object.text.items ≡ compact_text (bad_element_data member.now position)) }
 {
     object(
         alloc,
         &[
             Field("fault", Shown::Text("Member")),
-            Field("member", Shown::Text("ops")),
+            Field("member", Shown::Text(member)),
             Field("position", Shown::Number(position as u64)),
         ],
     )

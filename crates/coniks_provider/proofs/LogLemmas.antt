@@ -22,7 +22,7 @@ use Rattle.coniks_provider.specs.Replays.{check_named, command_turn, is_below, k
 use Rattle.coniks_provider.specs.declared.replay.kind.Kind.{Kind}
 use Rattle.coniks_provider.specs.declared.replay.kind.Kind.TheVariants as kind
 use Rattle.coniks_provider.specs.declared.replay.log.Log.{Log}
-use Rattle.coniks_provider.specs.declared.replay.refusal.Named.TheVariants as named
+use Rattle.coniks_programs.specs.declared.printing.Member.TheVariants as named
 use Rattle.coniks_lines.specs.Machine.{state_after}
 use Rattle.std.proofs.lemmas.Bool.Decides.{nat_tests}
 use Rattle.coniks_provider.specs.Turns.{BatchLine, Claims, ProviderDirectory, Pending, ProviderTurn, ProviderState, nothing, restoring, serving}

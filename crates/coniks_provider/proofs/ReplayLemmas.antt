@@ -15,7 +15,7 @@ use Rattle.serde_json.specs.View.{view, items_view}
 use Rattle.serde_json.specs.declared.value.Value.{Value}
 use Rattle.coniks_provider.specs.Replays.{IsReplayed, IsReportOf, Replay, is_on, is_replayed, line_turn, place_after, place_of, replay_after, replay_at, replay_of, report_text, step_of}
 use Rattle.coniks_provider.specs.Replays.{after_bodies, after_body, after_entries, after_entry, count_of, digits_of, group_in, if_group, needed, or_differs, with_body, with_entry}
-use Rattle.coniks_provider.specs.declared.replay.refusal.Named.TheVariants.{Entries, Replaced}
+use Rattle.coniks_programs.specs.declared.printing.Member.TheVariants.{Entries, Replaced}
 use Rattle.coniks_provider.specs.declared.replay.refusal.Why.{Why}
 use Rattle.coniks_provider.specs.declared.replay.refusal.Why.TheVariants.{Differs, Member}
 use Rattle.coniks_provider.specs.declared.replay.snapshot.Snapshot.{Snapshot}

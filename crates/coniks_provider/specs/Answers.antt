@@ -44,8 +44,6 @@ pub data ProviderOutcome : Type 0 where
   restored : (entry : Entry) (link : Octets) → ProviderOutcome
   -- the line is refused for a reason that `run` has too
   because : Refusal → ProviderOutcome
-  -- the element of `bindings` at this place is no binding
-  bad_binding : (place : ℕ) → ProviderOutcome
   -- no restore has begun
   not_restoring : ProviderOutcome
   -- the entry's epoch isn't later than the epoch before it
@@ -60,8 +58,6 @@ pub data ProviderOutcome : Type 0 where
   other_index_at : (place : ℕ) → ProviderOutcome
   -- no update is pending
   not_prepared : ProviderOutcome
-  -- `log` is another format
-  bad_log : ProviderOutcome
   -- the line abandons another update than the pending one
   not_abandoned : ProviderOutcome
   -- the line names another body or link than its own
@@ -87,7 +83,6 @@ provider_outcome_of reply.Restore = restore_begun
 provider_outcome_of (reply.Restoring names) = bindings_added names
 provider_outcome_of (reply.Restored entry link) = restored entry link.0
 provider_outcome_of (reply.Refused why) = because (refusal_of why)
-provider_outcome_of (reply.BadBinding place) = bad_binding place
 provider_outcome_of reply.NotRestoring = not_restoring
 provider_outcome_of reply.NotLater = not_later
 provider_outcome_of reply.Version = bad_version
@@ -95,7 +90,6 @@ provider_outcome_of reply.Malformed = malformed
 provider_outcome_of reply.RootDiffers = root_differs
 provider_outcome_of (reply.OtherIndex place) = other_index_at place
 provider_outcome_of reply.NotPrepared = not_prepared
-provider_outcome_of reply.BadLog = bad_log
 provider_outcome_of reply.NotAbandoned = not_abandoned
 provider_outcome_of reply.ReplayDiffers = replay_differs
 provider_outcome_of reply.BadIndex = bad_index
@@ -163,21 +157,6 @@ restoring_data names =
     (member (codes "names") (number (unsigned names))
     (member (codes "ok") (string (codes "restoring")) no_members))
 
--- {"fault":"Member","member":"bindings","position":NUM}
-abbrev pub bad_binding_data : ℕ → Data
-bad_binding_data place =
-    object
-    (member (codes "fault") (string (codes "Member"))
-    (member (codes "member") (string (codes "bindings"))
-    (member (codes "position") (number (unsigned place)) no_members)))
-
--- {"fault":"Member","member":"log"}
-abbrev pub bad_log_data : Data
-bad_log_data =
-    object
-    (member (codes "fault") (string (codes "Member"))
-    (member (codes "member") (string (codes "log")) no_members))
-
 -- the text that is printed for what comes of a line: an object as JSON (RFC 8259) without white space
 abbrev pub provider_reply_text : ProviderOutcome → Octets
 provider_reply_text opened = compact_text opened_data
@@ -191,7 +170,6 @@ provider_reply_text restore_begun = compact_text restore_begun_data
 provider_reply_text (bindings_added names) = compact_text (restoring_data names)
 provider_reply_text (restored entry link) = compact_text (entry_data (codes "restored") entry link)
 provider_reply_text (because why) = compact_text (refusal_data why)
-provider_reply_text (bad_binding place) = compact_text (bad_binding_data place)
 provider_reply_text not_restoring = compact_text (fault_data (codes "NotRestoring"))
 provider_reply_text not_later = compact_text (fault_data (codes "NotLater"))
 provider_reply_text bad_version = compact_text (fault_data (codes "Version"))
@@ -199,7 +177,6 @@ provider_reply_text malformed = compact_text (fault_data (codes "Malformed"))
 provider_reply_text root_differs = compact_text (fault_data (codes "RootDiffers"))
 provider_reply_text (other_index_at place) = compact_text (placed_fault_data (codes "OtherIndex") place)
 provider_reply_text not_prepared = compact_text (fault_data (codes "NotPrepared"))
-provider_reply_text bad_log = compact_text bad_log_data
 provider_reply_text not_abandoned = compact_text (fault_data (codes "NotAbandoned"))
 provider_reply_text replay_differs = compact_text (fault_data (codes "ReplayDiffers"))
 provider_reply_text bad_index = compact_text (fault_data (codes "OtherIndex"))

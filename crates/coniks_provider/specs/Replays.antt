@@ -18,10 +18,12 @@ use Rattle.coniks_chain.specs.declared.entry.Entry.{Entry}
 use Rattle.coniks_programs.specs.EntryLines.{entry_in}
 use Rattle.coniks_programs.specs.Members.{array_in, digits_in, number_in, object_in, text_in}
 use Rattle.coniks_programs.specs.ProofTexts.{digits}
-use Rattle.coniks_programs.specs.Replies.{bad_member_data, fault_data}
+use Rattle.coniks_programs.specs.Replies.{bad_member_data, fault_data, member_name}
 use Rattle.coniks_programs.specs.Turns.{Turn, refused}
 use Rattle.coniks_programs.specs.declared.fault.RunFault.{RunFault}
 use Rattle.coniks_programs.specs.declared.fault.RunFault.TheVariants.{Read, Write, OutOfMemory, NoBoard}
+use Rattle.coniks_programs.specs.declared.printing.Member.{Member}
+use Rattle.coniks_programs.specs.declared.printing.Member.TheVariants as named
 use Rattle.coniks_provider.specs.Answers.{ProviderOutcome, at_latest, is_accepted_line, provider_outcome_of, provider_reply_text, restored}
 use Rattle.coniks_provider.specs.Claims.{Claim, claim_in, log_in}
 use Rattle.coniks_provider.specs.Stored.{with_last}
@@ -33,8 +35,6 @@ use Rattle.coniks_provider.specs.declared.replay.Step.TheVariants as done
 use Rattle.coniks_provider.specs.declared.replay.kind.Kind.{Kind}
 use Rattle.coniks_provider.specs.declared.replay.kind.Kind.TheVariants as kind
 use Rattle.coniks_provider.specs.declared.replay.log.Log.{Log}
-use Rattle.coniks_provider.specs.declared.replay.refusal.Named.{Named}
-use Rattle.coniks_provider.specs.declared.replay.refusal.Named.TheVariants as named
 use Rattle.coniks_provider.specs.declared.replay.refusal.Why.{Why}
 use Rattle.coniks_provider.specs.declared.replay.refusal.Why.TheVariants as why
 use Rattle.coniks_provider.specs.declared.replay.snapshot.Part.{Part}
@@ -43,32 +43,16 @@ use Rattle.coniks_provider.specs.declared.replay.snapshot.Snapshot.{Snapshot}
 
 -- ---- refusals
 
--- the name of a member
-abbrev pub name_of : Named → Octets
-name_of named.Snapshot = codes "snapshot"
-name_of named.Position = codes "position"
-name_of named.Epochs = codes "epochs"
-name_of named.Names = codes "names"
-name_of named.Nonce = codes "nonce"
-name_of named.Policy = codes "policy"
-name_of named.Log = codes "log"
-name_of named.Entries = codes "entries"
-name_of named.Replaced = codes "replaced"
-name_of named.Entry = codes "entry"
-name_of named.Link = codes "link"
-name_of named.Body = codes "body"
-name_of named.First = codes "first"
-
 -- the object that is printed for a refused line
 abbrev pub why_text : Why → Octets
 why_text why.NotJson = compact_text (fault_data (codes "Json"))
 why_text why.Order = compact_text (fault_data (codes "Order"))
-why_text (why.Member m) = compact_text (bad_member_data (name_of m))
+why_text (why.Member m) = compact_text (bad_member_data (member_name m))
 why_text why.Differs = compact_text (fault_data (codes "Differs"))
 why_text why.Ended = compact_text (fault_data (codes "Ended"))
 
 -- a member that is needed for what follows
-abbrev pub needed : {A B : Type 0} → Option A → Named → (A → Result B Why) → Result B Why
+abbrev pub needed : {A B : Type 0} → Option A → Member → (A → Result B Why) → Result B Why
 needed None m next = Err (why.Member m)
 needed (Some a) m next = next a
 
@@ -238,7 +222,7 @@ check_skipped log d =
     else needed (digits_in 32 (codes "link") d) named.Link (λ link. if bytes_eq link log.link then Ok tt else Err why.Differs)
 
 -- bytes that a line of a log has to name
-abbrev pub named_by : Claim → Named → Result (Unit {0}) Why
+abbrev pub named_by : Claim → Member → Result (Unit {0}) Why
 named_by (Some (Some bytes)) m = Ok tt
 named_by _ m = Err (why.Member m)
 

@@ -29,9 +29,9 @@ use Rattle.coniks_programs.specs.EntryLines.{entry_in}
 use Rattle.coniks_programs.specs.Members.{array_in, digits_in, given, if_there, number_in, object_in, text_in}
 use Rattle.coniks_programs.specs.Paths.{path_to}
 use Rattle.coniks_programs.specs.Turns.{Turn, refused}
-use Rattle.coniks_programs.specs.declared.printing.Member.TheVariants.{Nonce, Policy, Epoch, Ops, Name, Index as IndexMember, Signature, Entry as EntryMember, After, Most, Bindings as BindingsMember}
-use Rattle.coniks_programs.specs.Refusals.{already_open, bad_batch, bad_member, bad_name_length, bad_operation, batch_too_long, epoch_not_later, no_command, not_json, not_open, unknown_epoch}
-use Rattle.coniks_provider.specs.Answers.{ProviderOutcome, at_latest, bad_binding, bad_index, bad_log, bad_supplied, bad_version, because, bindings_added, installed, is_accepted_line, listed, looked_up, malformed, not_later}
+use Rattle.coniks_programs.specs.declared.printing.Member.TheVariants.{Nonce, Policy, Epoch, Ops, Name, Index as IndexMember, Signature, Entry as EntryMember, After, Most, Bindings as BindingsMember, Log}
+use Rattle.coniks_programs.specs.Refusals.{already_open, bad_batch, bad_element, bad_member, bad_name_length, batch_too_long, epoch_not_later, no_command, not_json, not_open, unknown_epoch}
+use Rattle.coniks_provider.specs.Answers.{ProviderOutcome, at_latest, bad_index, bad_supplied, bad_version, because, bindings_added, installed, is_accepted_line, listed, looked_up, malformed, not_later}
 use Rattle.coniks_provider.specs.Answers.{not_abandoned, not_prepared, not_restoring, opened, page_data, prepared, provider_reply_text, replay_differs, restore_begun, restored, root_differs, withdrawn}
 use Rattle.coniks_provider.specs.Claims.{Claim, agrees, claim_in, is_named, log_in}
 use Rattle.coniks_provider.specs.Lines.{batch_in}
@@ -95,7 +95,7 @@ provider_open_with (serving o) logged nonce policy = refused (serving o) (becaus
 abbrev pub provider_open_turn : ProviderState → Option Octets → Option Octets → Option Bool → ProviderTurn
 provider_open_turn s None _ _ = refused s (because (bad_member Nonce))
 provider_open_turn s (Some nonce) None _ = refused s (because (bad_member Policy))
-provider_open_turn s (Some nonce) (Some policy) None = refused s bad_log
+provider_open_turn s (Some nonce) (Some policy) None = refused s (because (bad_member Log))
 provider_open_turn s (Some nonce) (Some policy) (Some logged) = provider_open_with s logged nonce policy
 
 -- ---- prepare
@@ -183,7 +183,7 @@ prepare_with (serving o) b = prepare_on o b (line_refusal o b)
 
 -- the operations were read, or one was not
 abbrev pub batch_read_turn : ProviderState → ℕ → Option Octets → Claims → Result (List Indexed) ℕ → ProviderTurn
-batch_read_turn s epoch new_nonce claims (Err place) = refused s (because (bad_operation place))
+batch_read_turn s epoch new_nonce claims (Err place) = refused s (because (bad_element Ops place))
 batch_read_turn s epoch new_nonce claims (Ok ops) = prepare_with s (record { epoch = epoch; new_nonce = new_nonce; ops = ops; claims = claims })
 
 -- `prepare`, by its members in the order of reading; the nonce may be missing
@@ -359,7 +359,7 @@ restore_with (serving o) logged entry = refused (serving o) (because already_ope
 -- `restore`, by its members in the order of reading
 abbrev pub restore_turn : ProviderState → Option Entry → Option Bool → ProviderTurn
 restore_turn s None _ = refused s (because (bad_member EntryMember))
-restore_turn s (Some entry) None = refused s bad_log
+restore_turn s (Some entry) None = refused s (because (bad_member Log))
 restore_turn s (Some entry) (Some logged) = restore_with s logged entry
 
 -- ---- restoring
@@ -404,7 +404,7 @@ restoring_with (serving o) bs = refused (serving o) not_restoring
 
 -- the bindings were read, or one was not
 abbrev pub bindings_read_turn : ProviderState → Result (List Indexed) ℕ → ProviderTurn
-bindings_read_turn s (Err place) = refused s (bad_binding place)
+bindings_read_turn s (Err place) = refused s (because (bad_element BindingsMember place))
 bindings_read_turn s (Ok bs) = restoring_with s bs
 
 -- `restoring`, by its member

@@ -9,7 +9,10 @@
 //! ```rust
 //! let mut reader = MemoryIn::new(Vec::from_slice(alloc, LINES)?);
 //! let mut writer = MemoryOut::new(alloc);
-//! let parallelism = Parallelism::new(2, 1)?;
+//! let parallelism = Parallelism::new(Wanted {
+//!     workers: 2,
+//!     depth: 1,
+//! })?;
 //! let all = run_provider(rt, alloc, &mut reader, &mut writer, parallelism)?;
 //! ```
 #![tactic(auto)]

@@ -21,6 +21,7 @@ use crate::store::Store;
 use crate::stored::{Stored, put_store, stored_line};
 use coniks_directory::OwnedBatch;
 use coniks_lines::{ByteIn, ByteOut, LineMachine, run_lines};
+use coniks_programs::builders::Builders;
 use coniks_programs::entries::read_entry;
 use coniks_programs::fault::{RunFault, of_run};
 use coniks_programs::members::{
@@ -35,12 +36,11 @@ use serde_json::Value;
 use std::alloc::{AllocError, Global};
 use std::thread::Threads;
 
-/// A machine that answers the lines of a provider, with the worker threads that build its epochs.
+/// A machine that answers the lines of a provider, with what builds its epochs.
 #[derive(Drop)]
 pub(crate) struct Providing<'r, T: Threads + Sync> {
     alloc: Global,
-    rt: &'r T,
-    parallelism: Parallelism,
+    builders: Builders<'r, T>,
     pub(crate) store: Store,
 }
 
@@ -66,13 +66,12 @@ fn most_in(object: &Value) -> Option<usize>
 
 impl<'r, T: Threads + Sync> Providing<'r, T> {
     /// Returns a machine that has opened nothing.
-    pub(crate) fn new(alloc: Global, rt: &'r T, parallelism: Parallelism) -> Self
+    pub(crate) fn new(alloc: Global, builders: Builders<'r, T>) -> Self
         ensures { result.store ≡ nothing }
     {
         Providing {
             alloc,
-            rt,
-            parallelism,
+            builders,
             store: Store::new(alloc),
         }
     }
@@ -89,7 +88,7 @@ impl<'r, T: Threads + Sync> Providing<'r, T> {
             return Reply::Refused(Refusal::BadMember(Member::Policy));
         };
         let Some(is_logged) = log_in(object) else {
-            return Reply::BadLog;
+            return Reply::Refused(Refusal::BadMember(Member::Log));
         };
         self.store.open_with(is_logged, nonce, policy)
     }
@@ -121,9 +120,11 @@ impl<'r, T: Threads + Sync> Providing<'r, T> {
                     body: claim_in(object, "body"),
                     abandons: claim_in(object, "abandons"),
                 };
-                self.store.prepare(self.rt, self.parallelism, line)
+                self.store.prepare(&self.builders, line)
             }
-            ReadList::BadElement(place) => Ok(Reply::Refused(Refusal::BadOperation(place))),
+            ReadList::BadElement(place) => {
+                Ok(Reply::Refused(Refusal::BadElement(Member::Ops, place)))
+            }
         }
     }
 
@@ -182,7 +183,7 @@ impl<'r, T: Threads + Sync> Providing<'r, T> {
         };
         match log_in(object) {
             Some(is_logged) => self.store.restore(is_logged, entry),
-            None => Ok(Reply::BadLog),
+            None => Ok(Reply::Refused(Refusal::BadMember(Member::Log))),
         }
     }
 
@@ -196,7 +197,9 @@ impl<'r, T: Threads + Sync> Providing<'r, T> {
         };
         match read_operations(self.alloc, Elements::Bindings, elements)? {
             ReadList::Whole(read) => self.store.restore_more(read),
-            ReadList::BadElement(place) => Ok(Reply::BadBinding(place)),
+            ReadList::BadElement(place) => {
+                Ok(Reply::Refused(Refusal::BadElement(Member::Bindings, place)))
+            }
         }
     }
 
@@ -252,7 +255,7 @@ impl<'r, T: Threads + Sync> Providing<'r, T> {
             return self.restoring(object);
         }
         if name == "restored" {
-            return self.store.end_restore(self.rt, self.parallelism);
+            return self.store.end_restore(&self.builders);
         }
         Ok(Reply::Refused(Refusal::NoCommand))
     }
@@ -311,6 +314,6 @@ pub fn run_provider<T: Threads + Sync, R: ByteIn, W: ByteOut>(
         (streams (R.source reader.old) (R.source reader.new) (W.sink writer.old) (W.sink writer.new))
         result }
 {
-    let mut providing = Providing::new(alloc, rt, parallelism);
+    let mut providing = Providing::new(alloc, Builders { rt, parallelism });
     of_run(run_lines(alloc, &mut providing, reader, writer))
 }

@@ -22,14 +22,16 @@ use crate::discard::Discard;
 use crate::machine::Providing;
 use crate::reply::Reply;
 use coniks_lines::{ByteIn, ByteOut, LineFault, LineMachine, run_lines, write_all};
+use coniks_programs::builders::Builders;
 use coniks_programs::entries::read_entry;
 use coniks_programs::fault::{RunFault, of_lines};
 use coniks_programs::members::{digits32, read_object};
 use coniks_programs::printable::Printable;
+use coniks_programs::printing::Member;
 use coniks_threads::Parallelism;
 use kind::{Kind, kind_in};
 use log::{Log, after_first, check_named, check_skipped, is_below, log_after};
-use refusal::{Named, Why, why_object};
+use refusal::{Why, why_object};
 use report::{refused, replayed};
 use serde_json::Value;
 use snapshot::{Part, Snapshot, bodies_in, entries_in, header_in, may_restore};
@@ -110,77 +112,6 @@ fn through(reply: Reply, after: Place) -> Step
     Step::By(reply)
 }
 
-/// Takes an `open`, `prepare` or `install` of a log.
-fn take_logged<T: Threads + Sync>(
-    providing: &mut Providing<'_, T>,
-    log: Log,
-    kind: Kind,
-    object: &Value,
-) -> Result<Step, AllocError>
-    requires { IsSync T.row }
-    ensures { IfOk result (λ step. Takes (logged_turn providing.old.store log kind (view object.now)) (step_of step) providing.new.store) }
-{
-    // No log has 2^64 lines.
-    let Some(after) = log_after(log) else {
-        return Err(AllocError);
-    };
-    if is_below(&log) {
-        return match check_skipped(&log, object) {
-            Ok(()) => Ok(Step::Taken(Place::Logging(after))),
-            Err(why) => Ok(Step::Because(why)),
-        };
-    }
-    if let Err(why) = check_named(kind, object) {
-        return Ok(Step::Because(why));
-    }
-    let reply = providing.command(object)?;
-    Ok(through(reply, Place::Logging(after)))
-}
-
-/// Takes a line of a log.
-fn take_of_log<T: Threads + Sync>(
-    providing: &mut Providing<'_, T>,
-    log: Log,
-    kind: Kind,
-    object: &Value,
-) -> Result<Step, AllocError>
-    requires { IsSync T.row }
-    ensures { IfOk result (λ step. Takes (log_turn providing.old.store log kind (view object.now)) (step_of step) providing.new.store) }
-{
-    match kind {
-        Kind::Open | Kind::Prepare | Kind::Install => take_logged(providing, log, kind, object),
-        Kind::First => {
-            if !log.is_first {
-                return Ok(Step::Because(Why::Order));
-            }
-            Ok(begins(after_first(log, object)))
-        }
-        _ => Ok(Step::Because(Why::Order)),
-    }
-}
-
-/// Begins to restore the entry of a line.
-fn begin_restore<T: Threads + Sync>(
-    providing: &mut Providing<'_, T>,
-    snapshot: Snapshot,
-    object: &Value,
-) -> Result<Step, AllocError>
-    ensures { IfOk result (λ step. Takes (begin_turn providing.old.store snapshot (entry_in (view object.now))) (step_of step) providing.new.store) }
-{
-    let Some(entry) = read_entry(object) else {
-        return Ok(Step::Because(Why::Member(Named::Entry)));
-    };
-    if !may_restore(&snapshot, &entry) {
-        return Ok(Step::Because(Why::Differs));
-    }
-    let reply = providing.store.restore(snapshot.is_logged, entry)?;
-    let after = Snapshot {
-        part: Part::Restore,
-        ..snapshot
-    };
-    Ok(through(reply, Place::Within(after)))
-}
-
 /// Returns what comes of the end of a restore, whose directory has this number of names then.
 fn end_by(snapshot: Snapshot, link: [u8; 32], reply: Reply, names: usize) -> Step
     ensures { (s : ProviderState) → names_in s ≡ names → step_of result ≡ ended_for snapshot link s (provider_outcome_of reply) }
@@ -199,71 +130,122 @@ fn end_by(snapshot: Snapshot, link: [u8; 32], reply: Reply, names: usize) -> Ste
     }))
 }
 
-/// Ends a snapshot by its last line.
-fn end_snapshot<T: Threads + Sync>(
-    providing: &mut Providing<'_, T>,
-    snapshot: Snapshot,
-    object: &Value,
-) -> Result<Step, AllocError>
-    requires { IsSync T.row }
-    ensures { IfOk result (λ step. Takes (end_turn providing.old.store snapshot (view object.now) (digits_in 32 (codes "link") (view object.now)))
-        (step_of step) providing.new.store) }
-{
-    let Some(link) = digits32(object, "link") else {
-        return Ok(Step::Because(Why::Member(Named::Link)));
-    };
-    let reply = providing.command(object)?;
-    Ok(end_by(snapshot, link, reply, providing.store.names()))
-}
-
-/// Takes a line within a snapshot.
-fn take_within<T: Threads + Sync>(
-    providing: &mut Providing<'_, T>,
-    snapshot: Snapshot,
-    kind: Kind,
-    object: &Value,
-) -> Result<Step, AllocError>
-    requires { IsSync T.row }
-    ensures { IfOk result (λ step. Takes (part_turn providing.old.store snapshot snapshot.part kind (view object.now)) (step_of step) providing.new.store) }
-{
-    match (snapshot.part, kind) {
-        (Part::Header, Kind::Entries) | (Part::Entries, Kind::Entries) => {
-            Ok(goes_on(entries_in(snapshot, object)))
+impl<'r, T: Threads + Sync> Providing<'r, T> {
+    /// Takes an `open`, `prepare` or `install` of a log.
+    fn take_logged(&mut self, log: Log, kind: Kind, object: &Value) -> Result<Step, AllocError>
+        requires { IsSync T.row }
+        ensures { IfOk result (λ step. Takes (logged_turn self.old.store log kind (view object.now)) (step_of step) self.new.store) }
+    {
+        // No log has 2^64 lines.
+        let Some(after) = log_after(log) else {
+            return Err(AllocError);
+        };
+        if is_below(&log) {
+            return match check_skipped(&log, object) {
+                Ok(()) => Ok(Step::Taken(Place::Logging(after))),
+                Err(why) => Ok(Step::Because(why)),
+            };
         }
-        (Part::Entries, Kind::Replaced) | (Part::Replaced, Kind::Replaced) => {
-            Ok(goes_on(bodies_in(snapshot, object)))
+        if let Err(why) = check_named(kind, object) {
+            return Ok(Step::Because(why));
         }
-        (Part::Entries, Kind::Restore) | (Part::Replaced, Kind::Restore) => {
-            begin_restore(providing, snapshot, object)
-        }
-        (Part::Restore, Kind::Restoring) => {
-            let reply = providing.command(object)?;
-            Ok(through(reply, Place::Within(snapshot)))
-        }
-        (Part::Restore, Kind::Restored) => end_snapshot(providing, snapshot, object),
-        _ => Ok(Step::Because(Why::Order)),
+        let reply = self.command(object)?;
+        Ok(through(reply, Place::Logging(after)))
     }
-}
 
-/// Takes the first line.
-fn take_first<T: Threads + Sync>(
-    providing: &mut Providing<'_, T>,
-    kind: Kind,
-    object: &Value,
-) -> Result<Step, AllocError>
-    requires { IsSync T.row }
-    ensures { IfOk result (λ step. Takes (fresh_turn providing.old.store kind (view object.now)) (step_of step) providing.new.store) }
-{
-    if let Kind::Header = kind {
-        return Ok(goes_on(header_in(object)));
+    /// Takes a line of a log.
+    fn take_of_log(&mut self, log: Log, kind: Kind, object: &Value) -> Result<Step, AllocError>
+        requires { IsSync T.row }
+        ensures { IfOk result (λ step. Takes (log_turn self.old.store log kind (view object.now)) (step_of step) self.new.store) }
+    {
+        match kind {
+            Kind::Open | Kind::Prepare | Kind::Install => self.take_logged(log, kind, object),
+            Kind::First => {
+                if !log.is_first {
+                    return Ok(Step::Because(Why::Order));
+                }
+                Ok(begins(after_first(log, object)))
+            }
+            _ => Ok(Step::Because(Why::Order)),
+        }
     }
-    let log = Log {
-        next: 0,
-        from: 0,
-        link: [0; 32],
-        is_first: false,
-    };
-    take_of_log(providing, log, kind, object)
+
+    /// Begins to restore the entry of a line.
+    fn begin_restore(&mut self, snapshot: Snapshot, object: &Value) -> Result<Step, AllocError>
+        ensures { IfOk result (λ step. Takes (begin_turn self.old.store snapshot (entry_in (view object.now))) (step_of step) self.new.store) }
+    {
+        let Some(entry) = read_entry(object) else {
+            return Ok(Step::Because(Why::Member(Member::Entry)));
+        };
+        if !may_restore(&snapshot, &entry) {
+            return Ok(Step::Because(Why::Differs));
+        }
+        let reply = self.store.restore(snapshot.is_logged, entry)?;
+        let after = Snapshot {
+            part: Part::Restore,
+            ..snapshot
+        };
+        Ok(through(reply, Place::Within(after)))
+    }
+
+    /// Ends a snapshot by its last line.
+    fn end_snapshot(&mut self, snapshot: Snapshot, object: &Value) -> Result<Step, AllocError>
+        requires { IsSync T.row }
+        ensures { IfOk result (λ step. Takes (end_turn self.old.store snapshot (view object.now) (digits_in 32 (codes "link") (view object.now)))
+            (step_of step) self.new.store) }
+    {
+        let Some(link) = digits32(object, "link") else {
+            return Ok(Step::Because(Why::Member(Member::Link)));
+        };
+        let reply = self.command(object)?;
+        Ok(end_by(snapshot, link, reply, self.store.names()))
+    }
+
+    /// Takes a line within a snapshot.
+    fn take_within(
+        &mut self,
+        snapshot: Snapshot,
+        kind: Kind,
+        object: &Value,
+    ) -> Result<Step, AllocError>
+        requires { IsSync T.row }
+        ensures { IfOk result (λ step. Takes (part_turn self.old.store snapshot snapshot.part kind (view object.now)) (step_of step) self.new.store) }
+    {
+        match (snapshot.part, kind) {
+            (Part::Header, Kind::Entries) | (Part::Entries, Kind::Entries) => {
+                Ok(goes_on(entries_in(snapshot, object)))
+            }
+            (Part::Entries, Kind::Replaced) | (Part::Replaced, Kind::Replaced) => {
+                Ok(goes_on(bodies_in(snapshot, object)))
+            }
+            (Part::Entries, Kind::Restore) | (Part::Replaced, Kind::Restore) => {
+                self.begin_restore(snapshot, object)
+            }
+            (Part::Restore, Kind::Restoring) => {
+                let reply = self.command(object)?;
+                Ok(through(reply, Place::Within(snapshot)))
+            }
+            (Part::Restore, Kind::Restored) => self.end_snapshot(snapshot, object),
+            _ => Ok(Step::Because(Why::Order)),
+        }
+    }
+
+    /// Takes the first line.
+    fn take_first(&mut self, kind: Kind, object: &Value) -> Result<Step, AllocError>
+        requires { IsSync T.row }
+        ensures { IfOk result (λ step. Takes (fresh_turn self.old.store kind (view object.now)) (step_of step) self.new.store) }
+    {
+        if let Kind::Header = kind {
+            return Ok(goes_on(header_in(object)));
+        }
+        let log = Log {
+            next: 0,
+            from: 0,
+            link: [0; 32],
+            is_first: false,
+        };
+        self.take_of_log(log, kind, object)
+    }
 }
 
 impl<'r, T: Threads + Sync> Replaying<'r, T> {
@@ -277,9 +259,9 @@ impl<'r, T: Threads + Sync> Replaying<'r, T> {
     {
         let kind = kind_in(object);
         match &self.place {
-            Place::Fresh => take_first(&mut self.providing, kind, object),
-            Place::Within(snapshot) => take_within(&mut self.providing, *snapshot, kind, object),
-            Place::Logging(log) => take_of_log(&mut self.providing, *log, kind, object),
+            Place::Fresh => self.providing.take_first(kind, object),
+            Place::Within(snapshot) => self.providing.take_within(*snapshot, kind, object),
+            Place::Logging(log) => self.providing.take_of_log(*log, kind, object),
             Place::Stopped(..) => Ok(Step::Because(Why::Order)),
         }
     }
@@ -398,7 +380,7 @@ pub fn run_replay<T: Threads + Sync, R: ByteIn, W: ByteOut>(
 {
     let mut replaying = Replaying {
         alloc,
-        providing: Providing::new(alloc, rt, parallelism),
+        providing: Providing::new(alloc, Builders { rt, parallelism }),
         lines: 0,
         place: Place::Fresh,
     };

@@ -3,7 +3,7 @@
 ghost use Rattle.std.specs.Prelude.{◌≡◌, IfOk};
 ghost use Rattle.serde_json.specs.Written.{compact_text};
 ghost use Rattle.coniks_chain.specs.Entries.{body_bytes};
-ghost use Rattle.coniks_provider.specs.Answers.{bad_binding_data, bad_log_data, entry_data, latest_data, provider_outcome_of, prepared_data, provider_reply_text, restoring_data};
+ghost use Rattle.coniks_provider.specs.Answers.{entry_data, latest_data, provider_outcome_of, prepared_data, provider_reply_text, restoring_data};
 
 use crate::latest::Latest;
 use coniks_chain::{Body, Entry};
@@ -41,8 +41,6 @@ pub(crate) enum Reply {
     Restored { entry: Entry, link: Digest },
     /// The line is refused for a reason that `run` has too.
     Refused(Refusal),
-    /// The element of `bindings` at this position is no binding.
-    BadBinding(usize),
     /// No restore has begun.
     NotRestoring,
     /// The entry's epoch is not later than the epoch before it.
@@ -57,8 +55,6 @@ pub(crate) enum Reply {
     OtherIndex(usize),
     /// No update is pending.
     NotPrepared,
-    /// The member `log` is another format.
-    BadLog,
     /// The line abandons another update than the pending one.
     NotAbandoned,
     /// The line names another body or link than its own.
@@ -86,7 +82,6 @@ impl Reply {
             | Reply::Restoring { .. }
             | Reply::Restored { .. } => true,
             Reply::Refused(_)
-            | Reply::BadBinding(_)
             | Reply::NotRestoring
             | Reply::NotLater
             | Reply::Version
@@ -94,7 +89,6 @@ impl Reply {
             | Reply::RootDiffers
             | Reply::OtherIndex(_)
             | Reply::NotPrepared
-            | Reply::BadLog
             | Reply::NotAbandoned
             | Reply::ReplayDiffers
             | Reply::BadIndex => false,
@@ -117,7 +111,6 @@ impl Reply {
             Reply::Restoring { names } => restoring(alloc, names),
             Reply::Restored { entry, link } => with_entry(alloc, "restored", &entry, &link),
             Reply::Refused(why) => why.object(alloc),
-            Reply::BadBinding(place) => bad_binding(alloc, place),
             Reply::NotRestoring => fault(alloc, "NotRestoring"),
             Reply::NotLater => fault(alloc, "NotLater"),
             Reply::Version => fault(alloc, "Version"),
@@ -125,7 +118,6 @@ impl Reply {
             Reply::RootDiffers => fault(alloc, "RootDiffers"),
             Reply::OtherIndex(position) => placed_fault(alloc, "OtherIndex", position),
             Reply::NotPrepared => fault(alloc, "NotPrepared"),
-            Reply::BadLog => bad_log(alloc),
             Reply::NotAbandoned => fault(alloc, "NotAbandoned"),
             Reply::ReplayDiffers => fault(alloc, "ReplayDiffers"),
             Reply::BadIndex => fault(alloc, "OtherIndex"),
@@ -192,33 +184,6 @@ fn restoring(alloc: Global, names: usize) -> Result<Printable, AllocError>
         &[
             Field("names", Shown::Number(names as u64)),
             Field("ok", Shown::Text("restoring")),
-        ],
-    )
-}
-
-/// Returns the object of a binding that cannot be read, with its position.
-fn bad_binding(alloc: Global, position: usize) -> Result<Printable, AllocError>
-    ensures { IfOk result (λ object. object.text.items ≡ compact_text (bad_binding_data position)) }
-{
-    object(
-        alloc,
-        &[
-            Field("fault", Shown::Text("Member")),
-            Field("member", Shown::Text("bindings")),
-            Field("position", Shown::Number(position as u64)),
-        ],
-    )
-}
-
-/// Returns the object of a log of another format.
-fn bad_log(alloc: Global) -> Result<Printable, AllocError>
-    ensures { IfOk result (λ object. object.text.items ≡ compact_text bad_log_data) }
-{
-    object(
-        alloc,
-        &[
-            Field("fault", Shown::Text("Member")),
-            Field("member", Shown::Text("log")),
         ],
     )
 }

@@ -12,9 +12,10 @@ use crate::service::Service;
 use crate::stage::Stage;
 use coniks_chain::Entry;
 use coniks_directory::{OwnedBindings, RestoreFault, Restoring, SuppliedIndices};
+use coniks_programs::builders::Builders;
 use coniks_programs::refusal::{Refusal, batch_refusal};
 use coniks_proof::{MAX_OPERATIONS, Sha256Hash};
-use coniks_threads::{Open, Parallelism};
+use coniks_threads::Open;
 use std::alloc::{AllocError, Global};
 use std::thread::Threads;
 
@@ -98,14 +99,16 @@ impl Restore {
     /// If the root of the bindings is not the entry's, nothing is open.
     pub(crate) fn finish<T: Threads + Sync>(
         self,
-        rt: &T,
-        parallelism: Parallelism,
+        builders: &Builders<'_, T>,
     ) -> Result<(Stage, Reply), AllocError>
         ensures served { IfOk result (λ it. IsServingIf it.0) }
         ensures reply { IfOk result (λ it. provider_outcome_of it.1 ≡ (end_restore (restore_of self)).outcome) }
         ensures state { IfOk result (λ it. provider_state_of it.0 ≡ (end_restore (restore_of self)).state) }
     {
-        match self.restoring.finish(rt, parallelism, &Open) {
+        match self
+            .restoring
+            .finish(builders.rt, builders.parallelism, &Open)
+        {
             Ok(directory) => {
                 let reply = Reply::Restored {
                     entry: only_entry(directory.chain()),

@@ -18,9 +18,10 @@ use coniks_directory::{
     BindingsFault, Directory, InstallFault, LinkedEntry, LookupAtFault, Prepared,
     SuppliedBatchFault, SuppliedIndices,
 };
+use coniks_programs::builders::Builders;
 use coniks_programs::refusal::{Refusal, batch_refusal};
 use coniks_proof::{Index, Nonce, Sha256Hash};
-use coniks_threads::{Open, Parallelism};
+use coniks_threads::Open;
 use std::alloc::{AllocError, Global};
 use std::thread::Threads;
 
@@ -123,8 +124,7 @@ impl Service {
     /// Prepares the update of a batch, in place of the pending one.
     pub(crate) fn prepare<T: Threads + Sync>(
         &mut self,
-        rt: &T,
-        parallelism: Parallelism,
+        builders: &Builders<'_, T>,
         line: ReadBatch,
     ) -> Result<Reply, AllocError>
         requires { IsServing self.old }
@@ -143,6 +143,7 @@ impl Service {
             body: stated,
             ..
         } = line;
+        let (rt, parallelism) = (builders.rt, builders.parallelism);
         let update = match self.directory.prepare_owned(rt, batch, parallelism, &Open) {
             Ok(update) => update,
             Err(fault) => return supplied_refusal(fault),
@@ -258,8 +259,6 @@ impl Service {
             Ok(found) => found,
             Err(fault) => return lookup_refusal(fault),
         };
-        // Read for the contract alone.
-        let _chain = self.directory.chain();
         let name = String::from_str(alloc, name)?;
         Ok(Reply::LookedUp { name, found })
     }

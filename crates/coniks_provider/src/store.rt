@@ -15,8 +15,8 @@ use crate::restoring::{Beginning, Restore};
 use crate::service::Service;
 use crate::stage::{Stage, take_restore};
 use coniks_chain::{BODY_BYTES, Entry};
+use coniks_programs::builders::Builders;
 use coniks_programs::refusal::Refusal;
-use coniks_threads::Parallelism;
 use std::alloc::{AllocError, Global};
 use std::marker::Model;
 use std::thread::Threads;
@@ -77,8 +77,7 @@ impl Store {
     /// Prepares the update of a batch that was read.
     pub(crate) fn prepare<T: Threads + Sync>(
         &mut self,
-        rt: &T,
-        parallelism: Parallelism,
+        builders: &Builders<'_, T>,
         line: ReadBatch,
     ) -> Result<Reply, AllocError>
         ensures reply { IfOk result (λ reply. provider_outcome_of reply ≡ (prepare_with self.old (batch_line_of line)).outcome) }
@@ -87,7 +86,7 @@ impl Store {
         let Stage::Open(service) = &mut self.stage else {
             return Ok(Reply::Refused(Refusal::NotOpen));
         };
-        service.prepare(rt, parallelism, line)
+        service.prepare(builders, line)
     }
 
     /// Installs the pending update with a signature that was read.
@@ -220,8 +219,7 @@ impl Store {
     /// If its root is not the entry's, nothing is open, and no restore has begun.
     pub(crate) fn end_restore<T: Threads + Sync>(
         &mut self,
-        rt: &T,
-        parallelism: Parallelism,
+        builders: &Builders<'_, T>,
     ) -> Result<Reply, AllocError>
         ensures reply { IfOk result (λ reply. provider_outcome_of reply ≡ (restored_turn self.old).outcome) }
         ensures state { OnOk result (self.new ≡ (restored_turn self.old).state) }
@@ -229,7 +227,7 @@ impl Store {
         let Some(restore) = take_restore(&mut self.stage) else {
             return Ok(Reply::NotRestoring);
         };
-        let (stage, reply) = restore.finish(rt, parallelism)?;
+        let (stage, reply) = restore.finish(builders)?;
         self.stage = stage;
         Ok(reply)
     }

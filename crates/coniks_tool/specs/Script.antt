@@ -18,7 +18,7 @@ use Rattle.coniks_programs.specs.Members.{object_in, text_in, number_in, array_i
 use Rattle.coniks_programs.specs.Operations.{operations_in}
 use Rattle.coniks_programs.specs.Paths.{path_to}
 use Rattle.coniks_tool.specs.Refusals.{refusal}
-use Rattle.coniks_programs.specs.Refusals.{Refusal, already_open, bad_member, bad_name_length, bad_operation, no_command, not_json, not_open, unknown_epoch}
+use Rattle.coniks_programs.specs.Refusals.{Refusal, already_open, bad_element, bad_member, bad_name_length, no_command, not_json, not_open, unknown_epoch}
 use Rattle.coniks_tool.specs.ScriptReplies.{Outcome, because, installed, is_accepted, looked_up, opened, reply_data}
 use Rattle.coniks_programs.specs.Turns.{Turn, refused, answer_by}
 use Rattle.coniks_programs.specs.declared.printing.Member.TheVariants.{Key, Nonce, Policy, Epoch, Ops, Name}
@@ -83,7 +83,7 @@ batch_with (Some o) batch = batch_on o batch (refusal (demo_index o.key) o.histo
 
 -- the operations were read, or one was not
 abbrev pub batch_read : ScriptState → ℕ → Option Octets → Result (List Operation) ℕ → ScriptTurn
-batch_read s epoch new_nonce (Err place) = refused s (because (bad_operation place))
+batch_read s epoch new_nonce (Err place) = refused s (because (bad_element Ops place))
 batch_read s epoch new_nonce (Ok ops) = batch_with s (record { t = epoch; new_nonce = new_nonce; ops = ops })
 
 -- `batch`, by its members in the order of reading; the nonce may be missing

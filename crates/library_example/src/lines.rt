@@ -5,7 +5,7 @@ ghost use Rattle.std.specs.Prelude.{length, nat_lt, ℕ};
 use anyhow::Result;
 use coniks_lines::{LineMachine, MemoryIn, MemoryOut, run_lines};
 use coniks_provider::run_provider;
-use coniks_threads::Parallelism;
+use coniks_threads::{Parallelism, Wanted};
 use coniks_tool::run_script;
 use std::alloc::AllocError;
 use std::thread::Threads;
@@ -65,7 +65,10 @@ pub fn answer_provider<R: Threads + Sync + Print + AllocGlobal>(rt: &R) -> Resul
     let alloc = rt.alloc();
     let mut reader = MemoryIn::new(Vec::from_slice(alloc, LINES)?);
     let mut writer = MemoryOut::new(alloc);
-    let parallelism = Parallelism::new(2, 1)?;
+    let parallelism = Parallelism::new(Wanted {
+        workers: 2,
+        depth: 1,
+    })?;
     let all = run_provider(rt, alloc, &mut reader, &mut writer, parallelism)?;
     print_run(rt, &writer, all)
 }

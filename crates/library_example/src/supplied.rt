@@ -6,7 +6,7 @@ use anyhow::{Result, bail};
 use coniks_chain::{Entry, SignatureSource};
 use coniks_directory::{Directory, IndexSource, OwnedBatch, SuppliedIndices};
 use coniks_proof::{Answer, check};
-use coniks_threads::{Open, Parallelism};
+use coniks_threads::{Open, Parallelism, Wanted};
 use std::thread::Threads;
 
 /// Registers two names at the indices that come with their batch, and looks up a third one, whose index isn't stored.
@@ -26,7 +26,10 @@ pub fn supplied_indices<R: Threads + Sync + Print + AllocGlobal>(rt: &R) -> Resu
         ops,
         indices,
     };
-    let parallelism = Parallelism::new(2, 1)?;
+    let parallelism = Parallelism::new(Wanted {
+        workers: 2,
+        depth: 1,
+    })?;
     let update = directory.prepare_owned(rt, batch, parallelism, &Open)?;
 
     // The body is signed, here or elsewhere.

@@ -6,9 +6,9 @@ use std::process::ExitCode;
 
 /// Runs `provider` on the arguments and the standard streams, and returns its exit status.
 fn main(rt: HostRuntime) -> ExitCode {
-    let provider = Provider::new(&rt, rt.alloc());
     let mut reader = SystemIn::new(rt.stdin());
     let mut writer = SystemOut::new(rt.stdout());
     let mut errors = SystemOut::new(rt.stderr());
-    ExitCode::from(start(&rt, &provider, &mut reader, &mut writer, &mut errors))
+    let status = start::<Provider, _, _, _, _>(&rt, &mut reader, &mut writer, &mut errors);
+    ExitCode::from(status)
 }

@@ -27,7 +27,7 @@ use coniks_directory::{
     SupplyFault, SupplyIndex,
 };
 use coniks_proof::{Digest, Hash32, Index, Nonce, Proof, Sha256Hash};
-use coniks_threads::{Open, Parallelism};
+use coniks_threads::{Open, Parallelism, Wanted};
 use std::process::Abort;
 use std::thread::Threads;
 
@@ -235,7 +235,14 @@ fn restore<R: Threads + Sync + Abort>(rt: &R, clerk: &Clerk) {
         let ops = ops_of(clerk.alloc, written).expect(rt, "operations");
         assert!(rt; begun.add(&ops).err() == refused);
     }
-    let again = finish_first(rt, begun, Parallelism::nearest(2, 1));
+    let again = finish_first(
+        rt,
+        begun,
+        Parallelism::nearest(Wanted {
+            workers: 2,
+            depth: 1,
+        }),
+    );
     let again = again.expect(rt, "a directory");
     assert!(rt; again.chain() == [entry].as_slice());
     assert!(rt; root_of(&again, 5) == root_of(&clerk.directory, 5));

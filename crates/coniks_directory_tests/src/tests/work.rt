@@ -4,7 +4,7 @@ use coniks_base_tests::{
     Bound, Meeting, NONCE, changes_to, digest, index_below, index_of, records_of,
 };
 use coniks_proof::{Digest, Hash32, Sha256Hash};
-use coniks_threads::{Gate, Parallelism, build, split};
+use coniks_threads::{Gate, Parallelism, Wanted, build, split};
 use coniks_tree::{Change, OutOfMemory, Tree};
 use std::alloc::{AllocError, Global};
 use std::sync::atomic::{AtomicU64, Ordering};
@@ -55,7 +55,10 @@ fn two_jobs_at_once(rt: HostRuntime) {
     ];
     let changes = changes_of(rt.alloc(), &both).expect(&rt, "memory");
     let gate = Meeting::of(2);
-    let parallelism = Parallelism::nearest(2, 1);
+    let parallelism = Parallelism::nearest(Wanted {
+        workers: 2,
+        depth: 1,
+    });
     let built = first_epoch(&rt, &Sha256Hash, &changes, parallelism, &gate);
     assert!(rt; gate.met());
     let want = "46de554c28df523fe8bbcbf7cf90c45cc1f44d29be6fc4bf4fa5fd416437b6ba";
@@ -67,7 +70,10 @@ fn two_jobs_at_once(rt: HostRuntime) {
 fn draws_move(rt: HostRuntime) {
     let changes = changes_of(rt.alloc(), &four()).expect(&rt, "memory");
     let gate = Meeting::of(4);
-    let parallelism = Parallelism::nearest(2, 8);
+    let parallelism = Parallelism::nearest(Wanted {
+        workers: 2,
+        depth: 8,
+    });
     let built = first_epoch(&rt, &Sha256Hash, &changes, parallelism, &gate);
     assert!(rt; gate.met());
     assert!(rt; built.expect(&rt, "memory") == (7, digest(OF_FOUR)));
@@ -129,7 +135,7 @@ fn gate_before_job(rt: HostRuntime) {
             came: [0; 4].map(|count| AtomicU64::new(count)),
             wrong: AtomicU64::new(0),
         };
-        let parallelism = Parallelism::nearest(workers, 8);
+        let parallelism = Parallelism::nearest(Wanted { workers, depth: 8 });
         let built = first_epoch(&rt, &Watched(&gate), &changes, parallelism, &gate);
         assert!(rt; built.expect(&rt, "memory") == (7, digest(OF_FOUR)));
         assert!(rt; gate.wrong.load(Ordering::SeqCst) == 0);
@@ -175,7 +181,7 @@ fn jobs_of_each_worker(rt: HostRuntime) {
         (64, 0, 1),
     ] {
         let gate = Jobs(AtomicU64::new(0));
-        let parallelism = Parallelism::nearest(workers, depth);
+        let parallelism = Parallelism::nearest(Wanted { workers, depth });
         let built = first_epoch(&rt, &Sha256Hash, &changes, parallelism, &gate);
         assert!(rt; built.expect(&rt, "memory") == (8191, digest(want)));
         let count = gate.0.load(Ordering::SeqCst);

@@ -1,12 +1,13 @@
 //! Runs a program, and writes its error text.
 
 ghost use Rattle.std.specs.Prelude.{◌≡◌, ◌<◌, ◌+◌, ◌^◌, map, option_map};
+ghost use Rattle.std.specs.Thread.{IsSync};
 ghost use Rattle.coniks_lines.specs.Runs.{streams};
 ghost use Rattle.coniks_programs.specs.Endings.{IsOutcome, IsWhole, reported_of, unread_status};
 ghost use Rattle.coniks_programs.specs.Telling.{Tells};
 
 use crate::cli::arguments::{Unread, words};
-use crate::cli::command_line::CommandLine;
+use crate::cli::command_line::{CommandLine, Host};
 use crate::cli::ending::{Ending, status};
 use crate::cli::telling::{tell, tell_if};
 use crate::fault::RunFault;
@@ -14,26 +15,31 @@ use coniks_lines::{ByteIn, ByteOut};
 use std::alloc::Global;
 use std::convert::AsStr;
 use std::env::Env;
+use std::thread::Threads;
 
 /// Runs a program on the arguments that it was called with, and returns its exit status.
 ///
 /// A failure of `errors` changes no status.
-pub fn start<T: Env + Alloc<A = Global>, P: CommandLine, R: ByteIn, W: ByteOut, E: ByteOut>(
-    rt: &T,
-    program: &P,
-    reader: &mut R,
-    writer: &mut W,
-    errors: &mut E,
-) -> u8
+pub fn start<
+    P: CommandLine,
+    T: Env + Alloc<A = Global> + Threads + Sync,
+    R: ByteIn,
+    W: ByteOut,
+    E: ByteOut,
+>(rt: &T, reader: &mut R, writer: &mut W, errors: &mut E) -> u8
     requires reads { (R.source reader.old).failed + 1 < 2 ^ 64 }
     requires writes { (W.sink writer.old).failed + 1 < 2 ^ 64 }
     requires tells { (E.sink errors.old).failed + 1 < 2 ^ 64 }
-    requires needs { P.Needs }
+    requires threads { IsSync T.row }
     ensures { IsWhole (λ words. P.MayEnd words (streams (R.source reader.old) (R.source reader.new) (W.sink writer.old) (W.sink writer.new)))
         P.line_for_fault P.line_for_unread (E.sink errors.old) (E.sink errors.new) result }
 {
+    let host = Host {
+        rt,
+        alloc: rt.alloc(),
+    };
     match words(rt) {
-        Ok(words) => run_on(program, words.as_slice(), reader, writer, errors),
+        Ok(words) => run_on::<P, T, _, _, _, _>(&host, words.as_slice(), reader, writer, errors),
         Err(why) => end_unread::<P, E>(why, errors),
     }
 }
@@ -41,8 +47,8 @@ pub fn start<T: Env + Alloc<A = Global>, P: CommandLine, R: ByteIn, W: ByteOut, 
 /// Runs a program on these arguments, and returns its exit status. The first argument is the program's name.
 ///
 /// A failure of `errors` changes no status.
-pub fn run_on<P: CommandLine, S: AsStr, R: ByteIn, W: ByteOut, E: ByteOut>(
-    program: &P,
+pub fn run_on<P: CommandLine, T: Threads + Sync, S: AsStr, R: ByteIn, W: ByteOut, E: ByteOut>(
+    host: &Host<'_, T>,
     words: &[S],
     reader: &mut R,
     writer: &mut W,
@@ -51,11 +57,11 @@ pub fn run_on<P: CommandLine, S: AsStr, R: ByteIn, W: ByteOut, E: ByteOut>(
     requires reads { (R.source reader.old).failed + 1 < 2 ^ 64 }
     requires writes { (W.sink writer.old).failed + 1 < 2 ^ 64 }
     requires tells { (E.sink errors.old).failed + 1 < 2 ^ 64 }
-    requires needs { P.Needs }
+    requires threads { IsSync T.row }
     ensures { IsOutcome (P.MayEnd (map S.text words.entry.now) (streams (R.source reader.old) (R.source reader.new) (W.sink writer.old) (W.sink writer.new)))
         P.line_for_fault (E.sink errors.old) (E.sink errors.new) result }
 {
-    let outcome = program.run(words, reader, writer);
+    let outcome = P::run(host, words, reader, writer);
     tell_if(errors, reported::<P>(&outcome));
     status(&outcome)
 }

@@ -3,9 +3,8 @@
 use crate::cli::running::run_settings;
 use crate::cli::settings::settings_of;
 use coniks_lines::{ByteIn, ByteOut};
-use coniks_programs::cli::{CommandLine, Ending, Unread, end_unrun};
+use coniks_programs::cli::{CommandLine, Ending, Host, Unread, end_unrun};
 use coniks_programs::fault::RunFault;
-use std::alloc::Global;
 use std::convert::AsStr;
 use std::thread::Threads;
 
@@ -17,40 +16,26 @@ use std::thread::Threads;
 /// - 1: a line was refused.
 /// - 2: `clap` refused the arguments. Its text is written to the standard error.
 /// - 3: a read or a write failed, or an allocation failed. The standard error gets a line with the cause.
-#[derive(Drop)]
-pub struct Provider<'a, T> {
-    rt: &'a T,
-    alloc: Global,
-}
+pub struct Provider;
 
-impl<'a, T: Threads + Sync> Provider<'a, T> {
-    /// Returns the program, with what starts its threads and its allocator.
-    pub fn new(rt: &'a T, alloc: Global) -> Self {
-        Provider { rt, alloc }
-    }
-}
-
-impl<'a, T: Threads + Sync> CommandLine for Provider<'a, T> {
-    ghost use Rattle.std.specs.Thread.{IsSync};
+impl CommandLine for Provider {
     ghost use Rattle.coniks_provider.specs.Program.{Ends, fault_line, unread_line};
 
     ghost MayEnd = { Ends };
-
-    ghost Needs = { IsSync T.row };
 
     ghost line_for_fault = { fault_line };
 
     ghost line_for_unread = { unread_line };
 
-    fn run<S: AsStr, R: ByteIn, W: ByteOut>(
-        &self,
+    fn run<T: Threads + Sync, S: AsStr, R: ByteIn, W: ByteOut>(
+        host: &Host<'_, T>,
         words: &[S],
         reader: &mut R,
         writer: &mut W,
     ) -> Result<Ending, RunFault> {
-        match settings_of(self.rt, self.alloc, words) {
-            Ok(settings) => run_settings(self.rt, self.alloc, settings, reader, writer),
-            Err(fault) => end_unrun(self.alloc, fault, writer),
+        match settings_of(host, words) {
+            Ok(settings) => run_settings(host, settings, reader, writer),
+            Err(fault) => end_unrun(host.alloc, fault, writer),
         }
     }
 

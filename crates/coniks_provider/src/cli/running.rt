@@ -8,15 +8,13 @@ use crate::cli::settings::Settings;
 use crate::machine::run_provider;
 use crate::replay::run_replay;
 use coniks_lines::{ByteIn, ByteOut};
-use coniks_programs::cli::Ending;
+use coniks_programs::cli::{Ending, Host};
 use coniks_programs::fault::RunFault;
-use std::alloc::Global;
 use std::thread::Threads;
 
 /// Answers the lines of the reader, or replays them.
 pub(crate) fn run_settings<T: Threads + Sync, R: ByteIn, W: ByteOut>(
-    rt: &T,
-    alloc: Global,
+    host: &Host<'_, T>,
     settings: Settings,
     reader: &mut R,
     writer: &mut W,
@@ -26,6 +24,7 @@ pub(crate) fn run_settings<T: Threads + Sync, R: ByteIn, W: ByteOut>(
     ensures { EndsBy settings.is_replay
         (streams (R.source reader.old) (R.source reader.new) (W.sink writer.old) (W.sink writer.new)) result }
 {
+    let (rt, alloc) = (host.rt, host.alloc);
     let all = match settings.is_replay {
         true => run_replay(rt, alloc, reader, writer, settings.parallelism)?,
         false => run_provider(rt, alloc, reader, writer, settings.parallelism)?,

@@ -8,9 +8,8 @@ ghost use Rattle.coniks_provider.specs.Command.{has_flag, is_replay, provider};
 
 use crate::cli::command::command;
 use clap::ArgMatches;
-use coniks_programs::cli::{WordsFault, refused};
-use coniks_threads::{MAX_DEPTH, Parallelism};
-use std::alloc::Global;
+use coniks_programs::cli::{Host, WordsFault, refused};
+use coniks_threads::{MAX_DEPTH, Parallelism, Wanted};
 use std::convert::AsStr;
 use std::thread::{self, Threads};
 
@@ -29,9 +28,8 @@ pub(crate) struct Settings {
 /// - `Clap` if `clap` refuses the arguments. If they ask for help or the version, it contains an error of `clap` whose
 ///   text is for the standard output.
 /// - `OutOfMemory` if an allocation fails.
-pub(crate) fn settings_of<T: Threads, S: AsStr>(
-    rt: &T,
-    alloc: Global,
+pub(crate) fn settings_of<T: Threads + Sync, S: AsStr>(
+    host: &Host<'_, T>,
     words: &[S],
 ) -> Result<Settings, WordsFault>
     ensures faultless { OnOk result (fault_of provider (map S.text words.entry.now) ≡ []) }
@@ -42,7 +40,7 @@ pub(crate) fn settings_of<T: Threads, S: AsStr>(
     ensures passes { IfErr result (λ fault. takes provider (map S.text words.entry.now) ≡ true → fault ≡ OutOfMemory) }
     ensures refused { IfErr result (IsRefusal (fault_of provider (map S.text words.entry.now))) }
 {
-    let Ok(command) = command(alloc) else {
+    let Ok(command) = command(host.alloc) else {
         return Err(WordsFault::OutOfMemory);
     };
     let found = match command.try_get_matches_from(words) {
@@ -50,7 +48,7 @@ pub(crate) fn settings_of<T: Threads, S: AsStr>(
         Err(error) => return Err(refused(error)),
     };
     Ok(Settings {
-        parallelism: parallelism_by(rt, &found),
+        parallelism: parallelism_by(host.rt, &found),
         is_replay: has_flag(&found, "replay"),
     })
 }
@@ -62,7 +60,7 @@ fn parallelism_by<T: Threads>(rt: &T, found: &ArgMatches<'_>) -> Parallelism {
         None => processors(rt),
     };
     let depth = number(found, "depth").unwrap_or(MAX_DEPTH);
-    Parallelism::nearest(workers, depth)
+    Parallelism::nearest(Wanted { workers, depth })
 }
 
 /// Returns whether a flag is set.

@@ -6,9 +6,10 @@ ghost use Rattle.coniks_provider.specs.Replays.{after_first, check_named, check_
 
 use crate::claims::claim_in;
 use crate::replay::kind::Kind;
-use crate::replay::refusal::{Named, Why};
+use crate::replay::refusal::Why;
 use coniks_chain::BODY_BYTES;
 use coniks_programs::members::{digits32, number};
+use coniks_programs::printing::Member;
 use serde_json::Value;
 
 /// A log so far.
@@ -36,10 +37,10 @@ pub(crate) fn after_first(log: Log, object: &Value) -> Result<Log, Why>
     ensures { result ≡ after_first log (view object.now) }
 {
     let Some(first) = number(object, "first") else {
-        return Err(Why::Member(Named::First));
+        return Err(Why::Member(Member::First));
     };
     if first == 0 {
-        return Err(Why::Member(Named::First));
+        return Err(Why::Member(Member::First));
     }
     if first > log.from {
         return Err(Why::Differs);
@@ -65,7 +66,7 @@ pub(crate) fn check_skipped(log: &Log, object: &Value) -> Result<(), Why>
             }
             Err(Why::Differs)
         }
-        None => Err(Why::Member(Named::Link)),
+        None => Err(Why::Member(Member::Link)),
     }
 }
 
@@ -76,11 +77,11 @@ pub(crate) fn check_named(kind: Kind, object: &Value) -> Result<(), Why>
     match kind {
         Kind::Prepare => match claim_in::<BODY_BYTES>(object, "body") {
             Some(Some(_)) => Ok(()),
-            _ => Err(Why::Member(Named::Body)),
+            _ => Err(Why::Member(Member::Body)),
         },
         Kind::Install => match claim_in::<32>(object, "link") {
             Some(Some(_)) => Ok(()),
-            _ => Err(Why::Member(Named::Link)),
+            _ => Err(Why::Member(Member::Link)),
         },
         _ => Ok(()),
     }

@@ -1,29 +1,11 @@
 //! Why a line of a replay is refused, beside what the program refuses.
 
 ghost use Rattle.std.specs.Prelude.{◌≡◌, IfOk};
-ghost use Rattle.coniks_provider.specs.Replays.{why_text, name_of};
+ghost use Rattle.coniks_provider.specs.Replays.{why_text};
 
 use coniks_programs::printable::Printable;
-use coniks_programs::printing::{bad_member, fault};
+use coniks_programs::printing::{Member, bad_member, fault, member_text};
 use std::alloc::{AllocError, Global};
-
-/// A member of a line of a log or of a snapshot.
-#[derive(Clone, Copy)]
-pub(crate) enum Named {
-    Snapshot,
-    Position,
-    Epochs,
-    Names,
-    Nonce,
-    Policy,
-    Log,
-    Entries,
-    Replaced,
-    Entry,
-    Link,
-    Body,
-    First,
-}
 
 /// Why a line is refused.
 #[derive(Clone, Copy)]
@@ -33,32 +15,11 @@ pub(crate) enum Why {
     /// The line may not follow the one before it.
     Order,
     /// A member is missing or not as defined.
-    Member(Named),
+    Member(Member),
     /// The snapshot is wrong.
     Differs,
     /// The input ends too early.
     Ended,
-}
-
-/// Returns the name of a member.
-fn name_of(named: Named) -> &'static str
-    ensures { result.now ≡ name_of named }
-{
-    match named {
-        Named::Snapshot => "snapshot",
-        Named::Position => "position",
-        Named::Epochs => "epochs",
-        Named::Names => "names",
-        Named::Nonce => "nonce",
-        Named::Policy => "policy",
-        Named::Log => "log",
-        Named::Entries => "entries",
-        Named::Replaced => "replaced",
-        Named::Entry => "entry",
-        Named::Link => "link",
-        Named::Body => "body",
-        Named::First => "first",
-    }
 }
 
 /// Returns the object that is printed for a refused line.
@@ -68,7 +29,7 @@ pub(crate) fn why_object(alloc: Global, why: Why) -> Result<Printable, AllocErro
     match why {
         Why::NotJson => fault(alloc, "Json"),
         Why::Order => fault(alloc, "Order"),
-        Why::Member(named) => bad_member(alloc, name_of(named)),
+        Why::Member(member) => bad_member(alloc, member_text(member)),
         Why::Differs => fault(alloc, "Differs"),
         Why::Ended => fault(alloc, "Ended"),
     }

@@ -1,6 +1,6 @@
 //! What a replay prints.
 
-ghost use Rattle.std.specs.Prelude.{◌≡◌, IfOk, None, Some};
+ghost use Rattle.std.specs.Prelude.{◌≡◌, IfOk};
 ghost use Rattle.serde_json.specs.Written.{compact_text};
 ghost use Rattle.coniks_provider.specs.Replays.{refused_text, replayed_data};
 
@@ -20,64 +20,27 @@ pub(crate) fn refused(alloc: Global, line: u64, reply: &[u8]) -> Result<Printabl
     Ok(printed)
 }
 
-/// Returns the object for a log that was replayed, with a pending update.
-fn with_pending<'a>(
-    alloc: Global,
-    latest: &'a Latest,
-    body: &'a [u8],
-    position: u64,
-) -> Result<Printable, AllocError>
-    ensures { IfOk result (λ object. object.text.items ≡ compact_text (replayed_data latest.now.epoch latest.now.link.0 latest.now.names
-        latest.now.nodes (Some body.now) position)) }
-{
-    object(
-        alloc,
-        &[
-            Field("epoch", Shown::Number(latest.epoch)),
-            Field("link", Shown::Digest(&latest.link.0)),
-            Field("names", Shown::Number(latest.names as u64)),
-            Field("nodes", Shown::Number(latest.nodes as u64)),
-            Field("ok", Shown::Text("replay")),
-            Field("pending", Shown::Digits(body)),
-            Field("position", Shown::Number(position)),
-        ],
-    )
-}
-
-/// Returns the object for a log that was replayed, without a pending update.
-fn without_pending<'a>(
-    alloc: Global,
-    latest: &'a Latest,
-    position: u64,
-) -> Result<Printable, AllocError>
-    ensures { IfOk result (λ object. object.text.items ≡ compact_text (replayed_data latest.now.epoch latest.now.link.0 latest.now.names
-        latest.now.nodes None position)) }
-{
-    object(
-        alloc,
-        &[
-            Field("epoch", Shown::Number(latest.epoch)),
-            Field("link", Shown::Digest(&latest.link.0)),
-            Field("names", Shown::Number(latest.names as u64)),
-            Field("nodes", Shown::Number(latest.nodes as u64)),
-            Field("ok", Shown::Text("replay")),
-            Field("position", Shown::Number(position)),
-        ],
-    )
-}
-
 /// Returns the object for a log that was replayed up to a position.
-pub(crate) fn replayed(
+pub(crate) fn replayed<'a>(
     alloc: Global,
-    latest: &Latest,
-    pending: &Option<[u8; BODY_BYTES]>,
+    latest: &'a Latest,
+    pending: &'a Option<[u8; BODY_BYTES]>,
     position: u64,
 ) -> Result<Printable, AllocError>
     ensures { IfOk result (λ object. object.text.items ≡ compact_text (replayed_data latest.now.epoch latest.now.link.0 latest.now.names
         latest.now.nodes pending.now position)) }
 {
+    let epoch = Field("epoch", Shown::Number(latest.epoch));
+    let link = Field("link", Shown::Digest(&latest.link.0));
+    let names = Field("names", Shown::Number(latest.names as u64));
+    let nodes = Field("nodes", Shown::Number(latest.nodes as u64));
+    let ok = Field("ok", Shown::Text("replay"));
+    let position = Field("position", Shown::Number(position));
     match pending {
-        Some(body) => with_pending(alloc, latest, body, position),
-        None => without_pending(alloc, latest, position),
+        Some(body) => {
+            let pending = Field("pending", Shown::Digits(body));
+            object(alloc, &[epoch, link, names, nodes, ok, pending, position])
+        }
+        None => object(alloc, &[epoch, link, names, nodes, ok, position]),
     }
 }

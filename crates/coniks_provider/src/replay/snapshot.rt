@@ -5,9 +5,10 @@ ghost use Rattle.serde_json.specs.View.{items_view, view};
 ghost use Rattle.coniks_provider.specs.Replays.{after_bodies, after_entries, bodies_in, digits_of, entries_in, expected, group_in, header_in, is_next_entry, may_restore, with_body, with_entry};
 
 use crate::claims::log_in;
-use crate::replay::refusal::{Named, Why};
+use crate::replay::refusal::Why;
 use coniks_chain::{BODY_BYTES, Entry, link};
 use coniks_programs::members::{array, bytes_of_digits, digits32, number};
+use coniks_programs::printing::Member;
 use coniks_proof::Sha256Hash;
 use serde_json::Value;
 
@@ -57,28 +58,28 @@ pub(crate) fn header_in(object: &Value) -> Result<Snapshot, Why>
     ensures { result ≡ header_in (view object.now) }
 {
     let Some(format) = number(object, "snapshot") else {
-        return Err(Why::Member(Named::Snapshot));
+        return Err(Why::Member(Member::Snapshot));
     };
     if format != FORMAT {
         return Err(Why::Differs);
     }
     let Some(position) = number(object, "position") else {
-        return Err(Why::Member(Named::Position));
+        return Err(Why::Member(Member::Position));
     };
     let Some(epochs) = number(object, "epochs") else {
-        return Err(Why::Member(Named::Epochs));
+        return Err(Why::Member(Member::Epochs));
     };
     let Some(names) = number(object, "names") else {
-        return Err(Why::Member(Named::Names));
+        return Err(Why::Member(Member::Names));
     };
     if digits32(object, "nonce").is_none() {
-        return Err(Why::Member(Named::Nonce));
+        return Err(Why::Member(Member::Nonce));
     }
     let Some(policy) = digits32(object, "policy") else {
-        return Err(Why::Member(Named::Policy));
+        return Err(Why::Member(Member::Policy));
     };
     let Some(is_logged) = log_in(object) else {
-        return Err(Why::Member(Named::Log));
+        return Err(Why::Member(Member::Log));
     };
     let Some(replaced) = expected(position, epochs) else {
         return Err(Why::Differs);
@@ -156,7 +157,7 @@ fn after_entries(snapshot: Snapshot, elements: &[Value]) -> Result<Snapshot, Why
     let mut after = snapshot;
     for element in elements {
         let Some(bytes) = digits_of(element) else {
-            return Err(Why::Member(Named::Entries));
+            return Err(Why::Member(Member::Entries));
         };
         let Some(next) = with_entry(after, Entry::read(&bytes)) else {
             return Err(Why::Differs);
@@ -172,7 +173,7 @@ pub(crate) fn entries_in(snapshot: Snapshot, object: &Value) -> Result<Snapshot,
 {
     match group_in(object, "entries") {
         Some(elements) => after_entries(snapshot, elements),
-        None => Err(Why::Member(Named::Entries)),
+        None => Err(Why::Member(Member::Entries)),
     }
 }
 
@@ -195,7 +196,7 @@ fn after_bodies(snapshot: Snapshot, elements: &[Value]) -> Result<Snapshot, Why>
     let mut after = snapshot;
     for element in elements {
         if digits_of::<BODY_BYTES>(element).is_none() {
-            return Err(Why::Member(Named::Replaced));
+            return Err(Why::Member(Member::Replaced));
         }
         let Some(next) = with_body(after) else {
             return Err(Why::Differs);
@@ -211,7 +212,7 @@ pub(crate) fn bodies_in(snapshot: Snapshot, object: &Value) -> Result<Snapshot, 
 {
     match group_in(object, "replaced") {
         Some(elements) => after_bodies(snapshot, elements),
-        None => Err(Why::Member(Named::Replaced)),
+        None => Err(Why::Member(Member::Replaced)),
     }
 }
 

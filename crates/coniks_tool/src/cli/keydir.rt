@@ -3,9 +3,8 @@
 use crate::cli::running::run_settings;
 use crate::cli::settings::settings;
 use coniks_lines::{ByteIn, ByteOut};
-use coniks_programs::cli::{CommandLine, Ending, Unread, end_unrun};
+use coniks_programs::cli::{CommandLine, Ending, Host, Unread, end_unrun};
 use coniks_programs::fault::RunFault;
-use std::alloc::Global;
 use std::convert::AsStr;
 use std::thread::Threads;
 
@@ -19,40 +18,30 @@ use std::thread::Threads;
 ///   digits, or the key is valid and the expectation is not base64. The standard error then gets a line with the cause.
 /// - 3: a read or a write failed, an allocation failed, or the board of `run` could not be allocated. The standard error
 ///   gets a line with the cause.
-#[derive(Drop)]
-pub struct Keydir<'a, T> {
-    rt: &'a T,
-    alloc: Global,
-}
+///
+/// The result of `clap` for the arguments decides between a run, help or the version, and an error. A run is that of the
+/// settings, under their key and expectation. Arguments that select no run leave the input unread, whatever the status, and
+/// refused ones leave the output unwritten too. Nothing is written to the standard error if the run ends.
+pub struct Keydir;
 
-impl<'a, T: Threads + Sync> Keydir<'a, T> {
-    /// Returns the program, with what starts its threads and its allocator.
-    pub fn new(rt: &'a T, alloc: Global) -> Self {
-        Keydir { rt, alloc }
-    }
-}
-
-impl<'a, T: Threads + Sync> CommandLine for Keydir<'a, T> {
-    ghost use Rattle.std.specs.Thread.{IsSync};
+impl CommandLine for Keydir {
     ghost use Rattle.coniks_tool.specs.Program.{Ends, fault_line, unread_line};
 
     ghost MayEnd = { Ends };
-
-    ghost Needs = { IsSync T.row };
 
     ghost line_for_fault = { fault_line };
 
     ghost line_for_unread = { unread_line };
 
-    fn run<S: AsStr, R: ByteIn, W: ByteOut>(
-        &self,
+    fn run<T: Threads + Sync, S: AsStr, R: ByteIn, W: ByteOut>(
+        host: &Host<'_, T>,
         words: &[S],
         reader: &mut R,
         writer: &mut W,
     ) -> Result<Ending, RunFault> {
-        match settings(self.alloc, words) {
-            Ok(settings) => run_settings(self.rt, self.alloc, settings, reader, writer),
-            Err(fault) => end_unrun(self.alloc, fault, writer),
+        match settings(host.alloc, words) {
+            Ok(settings) => run_settings(host, settings, reader, writer),
+            Err(fault) => end_unrun(host.alloc, fault, writer),
         }
     }
 

@@ -14,7 +14,7 @@ use crate::monitor::expectation::expectation;
 use crate::monitor::machine::run_monitor;
 use crate::run::machine::run_script;
 use coniks_lines::{ByteIn, ByteOut};
-use coniks_programs::cli::Ending;
+use coniks_programs::cli::{Ending, Host};
 use coniks_programs::fault::RunFault;
 use coniks_programs::members::bytes_of_digits;
 use coniks_proof::Bytes;
@@ -29,8 +29,7 @@ const BAD_EXPECTATION: &str = "keydir: bad expectation\n";
 
 /// Runs the settings, after it has read the texts of a key and of an expectation.
 pub(crate) fn run_settings<T: Threads + Sync, R: ByteIn, W: ByteOut>(
-    rt: &T,
-    alloc: Global,
+    host: &Host<'_, T>,
     settings: Settings,
     reader: &mut R,
     writer: &mut W,
@@ -41,9 +40,10 @@ pub(crate) fn run_settings<T: Threads + Sync, R: ByteIn, W: ByteOut>(
     ensures { EndsBy (Some (choice_of settings.entry))
         (streams (R.source reader.old) (R.source reader.new) (W.sink writer.old) (W.sink writer.new)) result }
 {
+    let alloc = host.alloc;
     match settings {
         Settings::Run { workers, depth } => {
-            let all = run_script(rt, alloc, reader, writer, workers, depth)?;
+            let all = run_script(host.rt, alloc, reader, writer, workers, depth)?;
             Ok(Ending::Done(all))
         }
         Settings::Check => Ok(Ending::Done(run_check(alloc, reader, writer)?)),

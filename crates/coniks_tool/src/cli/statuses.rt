@@ -7,7 +7,7 @@ ghost use Rattle.coniks_tool.specs.Program.{Ends, fault_line};
 
 use crate::cli::keydir::Keydir;
 use coniks_lines::{ByteIn, ByteOut};
-use coniks_programs::cli::run_on;
+use coniks_programs::cli::{Host, run_on};
 use std::alloc::Global;
 use std::convert::AsStr;
 use std::thread::Threads;
@@ -32,6 +32,6 @@ pub fn program<T: Threads + Sync, S: AsStr, R: ByteIn, W: ByteOut, E: ByteOut>(
     ensures { IsOutcome (Ends (map S.text words.entry.now) (streams (R.source reader.old) (R.source reader.new) (W.sink writer.old) (W.sink writer.new)))
         fault_line (E.sink errors.old) (E.sink errors.new) result }
 {
-    let keydir = Keydir::new(rt, alloc);
-    run_on(&keydir, words, reader, writer, errors)
+    let host = Host { rt, alloc };
+    run_on::<Keydir, _, _, _, _, _>(&host, words, reader, writer, errors)
 }

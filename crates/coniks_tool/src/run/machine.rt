@@ -15,22 +15,22 @@ use crate::run::batch::Batch;
 use crate::run::reply::Reply;
 use crate::run::store::Store;
 use coniks_lines::{ByteIn, ByteOut, LineMachine, run_lines};
+use coniks_programs::builders::Builders;
 use coniks_programs::fault::{RunFault, of_run};
 use coniks_programs::members::{array, digits32, digits32_if_there, number, read_object, text};
 use coniks_programs::operations::{ReadList, read_ops};
 use coniks_programs::printing::Member;
 use coniks_programs::refusal::Refusal;
-use coniks_threads::Parallelism;
+use coniks_threads::{Parallelism, Wanted};
 use serde_json::Value;
 use std::alloc::{AllocError, Global};
 use std::thread::Threads;
 
-/// A machine that answers the lines of a script, with the worker threads that build its epochs.
+/// A machine that answers the lines of a script, with what builds its epochs.
 #[derive(Drop)]
 pub struct Script<'r, T: Threads + Sync> {
     alloc: Global,
-    rt: &'r T,
-    parallelism: Parallelism,
+    builders: Builders<'r, T>,
     store: Store,
 }
 
@@ -74,9 +74,11 @@ impl<'r, T: Threads + Sync> Script<'r, T> {
                     new_nonce,
                     ops,
                 };
-                self.store.install(self.rt, self.parallelism, batch)
+                self.store.install(&self.builders, batch)
             }
-            ReadList::BadElement(place) => Ok(Reply::Refused(Refusal::BadOperation(place))),
+            ReadList::BadElement(place) => {
+                Ok(Reply::Refused(Refusal::BadElement(Member::Ops, place)))
+            }
         }
     }
 
@@ -164,13 +166,12 @@ pub fn run_script<T: Threads + Sync, R: ByteIn, W: ByteOut>(
         result }
 {
     let store = Store::new(alloc)?;
-    let Ok(parallelism) = Parallelism::new(workers, depth) else {
+    let Ok(parallelism) = Parallelism::new(Wanted { workers, depth }) else {
         unreachable!()
     };
     let mut script = Script {
         alloc,
-        rt,
-        parallelism,
+        builders: Builders { rt, parallelism },
         store,
     };
     of_run(run_lines(alloc, &mut script, reader, writer))

@@ -20,12 +20,13 @@ use crate::demo::seal::DemoSeal;
 use crate::run::batch::Batch;
 use crate::run::reply::Reply;
 use coniks_chain::Entry;
-use coniks_directory::{CommitFault, Directory, InstallFault, LookupFault};
+use coniks_directory::{Build, CommitFault, Directory, EpochBatch, InstallFault, LookupFault};
+use coniks_programs::builders::Builders;
 use coniks_programs::fault::RunFault;
 use coniks_programs::members::nonce_of;
 use coniks_programs::refusal::{Refusal, batch_refusal};
 use coniks_proof::{Digest, Nonce, Sha256Hash};
-use coniks_threads::{Board, Open, Parallelism, Publisher};
+use coniks_threads::{Board, Open, Publisher};
 use std::alloc::{AllocError, Global};
 use std::marker::Model;
 use std::thread::Threads;
@@ -56,8 +57,7 @@ impl Service {
     /// Commits a batch, under a new nonce if it has one, and publishes the head of its entry.
     fn commit<T: Threads + Sync>(
         &mut self,
-        rt: &T,
-        parallelism: Parallelism,
+        builders: &Builders<'_, T>,
         batch: Batch,
         publisher: &mut Publisher,
         board: &Board,
@@ -73,19 +73,21 @@ impl Service {
             (IsRefusedBy (refusal (demo_index (opened_of self.old).key) (opened_of self.old).history batch.epoch (operations batch.ops.items))) }
         ensures unchanged { OnErr result (opened_of self.new ≡ opened_of self.old) }
     {
-        let committed = self.directory.commit_owned(
-            rt,
-            nonce_of(batch.new_nonce),
-            batch.ops,
-            parallelism,
-            &Open,
-            batch.epoch,
-            &mut self.signer,
-            publisher,
-            board,
-        );
-        // Read for the contract alone.
-        let _chain = self.directory.chain();
+        let build = Build {
+            rt: builders.rt,
+            parallelism: builders.parallelism,
+            gate: &Open,
+        };
+        let batch = EpochBatch {
+            epoch: batch.epoch,
+            nonce: nonce_of(batch.new_nonce),
+            ops: batch.ops,
+        };
+        let signer = &mut self.signer;
+        let committed = self
+            .directory
+            .commit_owned(&build, batch, signer, publisher, board);
+        self.directory.known();
         committed
     }
 
@@ -105,8 +107,7 @@ impl Service {
             Ok(found) => found,
             Err(fault) => return Ok(Reply::Refused(lookup_refusal(fault)?)),
         };
-        // Read for the contract alone.
-        let _chain = self.directory.chain();
+        self.directory.known();
         let name = String::from_str(alloc, name)?;
         Ok(Reply::LookedUp { name, found })
     }
@@ -213,8 +214,7 @@ impl Store {
     /// `AllocError` if an allocation fails.
     pub fn install<T: Threads + Sync>(
         &mut self,
-        rt: &T,
-        parallelism: Parallelism,
+        builders: &Builders<'_, T>,
         batch: Batch,
     ) -> Result<Reply, AllocError>
         ensures reply { IfOk result (λ reply. outcome_of reply ≡ (batch_with self.old (batch_of batch)).outcome) }
@@ -223,7 +223,7 @@ impl Store {
         let Some(mut service) = self.opened.take() else {
             return Ok(Reply::Refused(Refusal::NotOpen));
         };
-        let committed = service.commit(rt, parallelism, batch, &mut self.publisher, &self.board);
+        let committed = service.commit(builders, batch, &mut self.publisher, &self.board);
         let link = service.latest_link();
         self.opened = Some(service);
         let entry = match committed {

@@ -4,7 +4,7 @@ ghost use Rattle.std.specs.Prelude.{◌<◌};
 
 use anyhow::{Context, Result, ensure};
 use coniks_proof::MAX_OPERATIONS;
-use coniks_threads::Parallelism;
+use coniks_threads::{Parallelism, Wanted};
 
 /// A number of indices, registered in batches.
 #[derive(Drop)]
@@ -57,7 +57,10 @@ fn batches_of(indices: &str, batch: &str) -> Result<Plan> {
 
 /// Parses the number of workers and the split depth.
 fn parallelism_of(workers: &str, depth: &str) -> Result<Parallelism> {
-    Ok(Parallelism::new(small_of(workers)?, small_of(depth)?)?)
+    Ok(Parallelism::new(Wanted {
+        workers: small_of(workers)?,
+        depth: small_of(depth)?,
+    })?)
 }
 
 /// Parses the numbers of a command line.

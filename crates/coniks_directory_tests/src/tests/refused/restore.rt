@@ -10,7 +10,7 @@ use coniks_directory::{
     BatchFault, BindingsFault, IndexSource, OwnedBindings, RestoreFault, Restoring, SuppliedIndices,
 };
 use coniks_proof::Sha256Hash;
-use coniks_threads::Parallelism;
+use coniks_threads::{Parallelism, Wanted};
 use std::alloc::Global;
 use std::process::Abort;
 use std::thread::Threads;
@@ -91,7 +91,14 @@ fn restore_at_last<R: Threads + Sync + Abort>(rt: &R, clerk: &mut Clerk) -> (boo
     let entry = *clerk.directory.chain().last().expect(rt, "an entry");
     let mut begun = begun_at_last(rt, clerk.alloc, entry);
     let in_add = add_at_last(rt, clerk.alloc, &mut begun);
-    match finish_first(rt, begun, Parallelism::nearest(2, 1)) {
+    match finish_first(
+        rt,
+        begun,
+        Parallelism::nearest(Wanted {
+            workers: 2,
+            depth: 1,
+        }),
+    ) {
         Ok(again) => {
             assert!(rt; again.latest_link() == clerk.directory.latest_link());
             (in_add, false)

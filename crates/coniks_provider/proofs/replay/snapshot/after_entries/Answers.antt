@@ -2,7 +2,7 @@ use Rattle.std.proofs.Common.{ap, sym, ◌∙◌}
 use Rattle.serde_json.specs.View.{view}
 use Rattle.coniks_provider.specs.Replays.{with_entry}
 use Rattle.coniks_provider.specs.declared.replay.refusal.Why.TheVariants.{Differs, Member}
-use Rattle.coniks_provider.specs.declared.replay.refusal.Named.TheVariants.{Entries}
+use Rattle.coniks_programs.specs.declared.printing.Member.TheVariants.{Entries}
 use Rattle.coniks_provider.proofs.ReplayLemmas.{entries_taken, entry_refused, entry_taken, next_entry, no_entry, other_entry}
 use Rattle.coniks_provider.proofs.replay.snapshot.after_entries.Goals as goal
 

@@ -21,7 +21,7 @@ returns c =
     let o = opened_of c.args.self.now in
     let chain = c.args.self.now.directory.state.chain in
     let made : IsChainOf sha256 (demo_index o.key) o.policy None o.history chain =
-    subst (λ (b : Option AuditorState). IsChainOf sha256 (demo_index o.key) o.policy b o.history chain) c.requires.1.begun c.chain-chain.ensures.of_history in
+    subst (λ (b : Option AuditorState). IsChainOf sha256 (demo_index o.key) o.policy b o.history chain) c.requires.1.begun c.known.ensures in
     let is : chain ≡ chain_of o.key o.policy o.history = chain_is o.key o.policy (is_seal c.args.self.now.signer.key)
     c.requires.1.verdicts o.history chain made c.requires.1.good in
     found_there o c.args.epoch c.args.name.now c.as_bytes.result.now c.as_bytes.ensures.value c.in-Ok.found.proof
