@@ -617,9 +617,10 @@ def test_state_of_another_directory(person: Person, directory: Directory, tmp_pa
     person.run("register", "dave", "key one")
     person.run("register", "erin", "key two")
     members = person.stored()
+    chain = members["chain"]
     others = [
         {**members, "policy": members["policy"].replace("keys.example.com", "keys.example.org")},
-        {**members, "chain": members["chain"][:-2] + "00"},
+        {**members, "chain": chain[:-1] + ("1" if chain.endswith("0") else "0")},
         {**members, "own": {"dave": members["own"]["erin"], "erin": members["own"]["dave"]}},
         {**members, "own": {"dave": {**members["own"]["dave"], "value": members["own"]["erin"]["value"]}}},
         {**members, "own": []},
