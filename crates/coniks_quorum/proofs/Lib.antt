@@ -5,6 +5,7 @@ mod ConfirmLemmas
 mod CountLemmas
 mod CoverLemmas
 mod HeadsLemmas
+pub mod Lemmas
 mod ListLemmas
 mod QuorumLemmas
 mod ReportingLemmas
@@ -22,5 +23,6 @@ mod StatePutLemmas
 mod StateReadingLemmas
 mod StateSameLemmas
 mod StateWalkLemmas
+mod SuccessionLemmas
 mod TightLemmas
 mod VouchingLemmas

@@ -16,4 +16,5 @@ pub mod StateForms
 pub mod StateLaws
 pub mod StateReading
 pub mod StateWriting
+pub mod Successions
 pub mod Vouching

@@ -5,6 +5,7 @@ ghost use Rattle.coniks_quorum.specs.Clients.{AccountLaw, AgainLaw, BeginLaw, Cl
 ghost use Rattle.coniks_quorum.specs.Covering.{LeftOverLaw};
 ghost use Rattle.coniks_quorum.specs.Laws.{AgreeLaw, CutLaw, GrowLaw, HeadsLaw, LeftLaw, OwnerQuorumLaw, PlaceLaw, QuorumLaw, SharedLaw, TightLaw, WatcherQuorumLaw, WitnessLaw};
 ghost use Rattle.coniks_quorum.specs.Reporting.{GoodLaw, GoodPastLaw, GoodRunLaw, LoggedLaw};
+ghost use Rattle.coniks_quorum.specs.Successions.{NextClientLaw, NextWatchLaw};
 ghost use Rattle.coniks_quorum.specs.Vouching.{StartLaw};
 
 /// Proves that two quorums share more auditors than may lie.
@@ -50,6 +51,8 @@ pub fn clients()
     ensures whole { WholeLaw }
     ensures law { ClientsLaw }
     ensures start { StartLaw }
+    ensures next { NextClientLaw }
+    ensures next_watch { NextWatchLaw }
     ensures left_over { LeftOverLaw }
 {}
 

@@ -19,4 +19,5 @@ pub mod relying;
 pub mod reporting;
 pub mod sights;
 pub mod states;
+pub mod successions;
 pub mod vouching;

@@ -42,7 +42,7 @@ pub struct StartVerifier<'a, H, V> {
 }
 
 /// Returns the head of an entry.
-fn head_of<H: Hash32>(h: &H, entry: &Entry) -> Head
+pub(crate) fn head_of<H: Hash32>(h: &H, entry: &Entry) -> Head
     ensures { result ≡ head_of (H.digest_of h.now) entry.now }
 {
     Head {
