@@ -80,6 +80,13 @@ enum coniks_core_status {
     CONIKS_CORE_E_FUTURE = 86,        /* the latest epoch begins too far in the future */
     CONIKS_CORE_E_VRF_PROOF = 87,     /* the VRF proof is not one of this name */
 
+    /* a client does not go on by this succession */
+    CONIKS_CORE_E_SUCCESSION_POLICY = 88,    /* the succession ends another policy */
+    CONIKS_CORE_E_SUCCESSION_SIGNATURE = 89, /* the signature of the succession is not valid, or the policy has no such key */
+    CONIKS_CORE_E_NEXT_POLICY = 90,          /* the succession names another policy to go on */
+    CONIKS_CORE_E_CHAIN_DIFFERS = 91,        /* another stored entry covers the last epoch */
+    CONIKS_CORE_E_OTHER_START = 92,          /* the succession names another first entry of the next chain */
+
     /* the state is not one of this directory */
     CONIKS_CORE_E_STATE_LENGTH = 96,  /* the state has fewer than 110 bytes */
     CONIKS_CORE_E_STATE_VERSION = 97, /* the state's first byte is not 3 */
@@ -327,6 +334,17 @@ typedef struct coniks_state_needs {
     size_t entry_step;
 } coniks_state_needs;
 
+/* A succession: its lines, which the caller has read, and the verdict on its signature by the successor key of the client's policy. */
+typedef struct coniks_succession {
+    uint32_t signature;
+    coniks_bytes32 policy;
+    uint64_t last_epoch;
+    coniks_bytes32 last_link;
+    coniks_bytes32 next_policy;
+    uint64_t first_epoch;
+    coniks_bytes32 first_link;
+} coniks_succession;
+
 /*
  * Accepts an entry. One that continues the chain is stored after the others. The latest one with another signature takes its place: its time
  * and what was seen stay, and each mark at its epoch becomes 0. Returns CONIKS_GOOD; the first of 48, 40, 80, 81, 82 and 33 to 39, with
@@ -412,6 +430,16 @@ uint32_t coniks_core_relied(const coniks_core *core, size_t place);
 CONIKS_NODISCARD CONIKS_NONNULL((1, 4, 5))
 uint32_t coniks_core_start(coniks_core *core, const coniks_head *heads, size_t head_count, const coniks_received *received,
                            coniks_why *why);
+
+/*
+ * Goes on in the directory that a succession names. `next` is a client that has seen nothing, under the next policy's rules, with room for
+ * one epoch and one change; `received` is the first entry of the next chain that counts. Returns CONIKS_GOOD: then `next` has this entry, and
+ * watches the name of `core`, whose name and keys it shares. Entries of `core` after *place are void: keep one with the succession, and tell
+ * the user. Else returns the first of 140 and 137, or the first of 88 to 90, 83, 91, 48, 40, 80, 81 and 92, and writes nothing.
+ */
+CONIKS_NODISCARD CONIKS_NONNULL((1, 2, 3, 4, 5))
+uint32_t coniks_core_succeed(const coniks_core *core, const coniks_succession *succession, const coniks_received *received,
+                             coniks_core *next, size_t *place);
 
 /*
  * Drops the first stored epochs: those before the epoch that a quorum of the marks confirms, and before the first missing one that is not

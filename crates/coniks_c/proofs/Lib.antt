@@ -2,6 +2,7 @@ mod CoreLemmas
 mod KeyLemmas
 mod VerdictLemmas
 mod StatusLemmas
+mod SucceedLemmas
 mod ReportedLemmas
 mod QuorumLemmas
 mod FeedLemmas

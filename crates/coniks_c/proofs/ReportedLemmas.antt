@@ -45,10 +45,10 @@ module _ (reported : ℕ) (verdict : List ℕ → List ℕ → Bool) (policy : L
   unsigned-alike (OtherPolicy conviction) none = none
   unsigned-alike (Malformed conviction) none = none
 
-  verified-alike : IsVerified (By reported) policy entry → IsVerified verdict policy entry
+  pub verified-alike : IsVerified (By reported) policy entry → IsVerified verdict policy entry
   verified-alike verified = record { signed = signed-alike verified.signed; own = verified.own }
 
-  alone-alike : (fault : EntryFault) → IsRefusedAlone (By reported) policy stored entry fault → IsRefusedAlone verdict policy stored entry fault
+  pub alone-alike : (fault : EntryFault) → IsRefusedAlone (By reported) policy stored entry fault → IsRefusedAlone verdict policy stored entry fault
   alone-alike fault (inl unsigned) = inl (unsigned-alike fault unsigned)
   alone-alike fault (inr foreign) = inr (signed-alike foreign.0, foreign.1)
 

@@ -19,7 +19,7 @@ module _ (mine : StoredEntry) (seen : ℕ) where
   marks-same (head ∷ heads) = ap (λ (m : ℕ). m ∷ marks_of sha256 (record mine { seen = seen } ∷ []) heads) (mark-same head)
       ∙ ap (λ (ms : List ℕ). mark_of sha256 (mine ∷ []) head ∷ ms) (marks-same heads)
 
-first-set : {X : Type 0} (xs : List X) (x : X) → 0 < length xs → take 1 (set xs 0 x) ≡ x ∷ []
+pub first-set : {X : Type 0} (xs : List X) (x : X) → 0 < length xs → take 1 (set xs 0 x) ≡ x ∷ []
 first-set [] x some = absurd (omega (arith, some))
 first-set (y ∷ xs) x some = refl
 

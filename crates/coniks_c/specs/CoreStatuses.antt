@@ -21,6 +21,8 @@ use Rattle.coniks_client.specs.declared.times.AgeFault.{AgeFault}
 use Rattle.coniks_client.specs.declared.times.AgeFault.TheVariants.{Stale, Future}
 use Rattle.coniks_quorum.specs.declared.relying.Reliance.{Reliance}
 use Rattle.coniks_quorum.specs.declared.relying.Reliance.TheVariants.{ReliedOn, Unconfirmed}
+use Rattle.coniks_quorum.specs.declared.successions.SuccessionFault.{SuccessionFault}
+use Rattle.coniks_quorum.specs.declared.successions.SuccessionFault.TheVariants as succession
 use Rattle.coniks_quorum.specs.declared.vouching.StartFault.{StartFault}
 use Rattle.coniks_quorum.specs.declared.vouching.StartFault.TheVariants as start
 use Rattle.coniks_client.specs.declared.histories.faults.AcceptFault.{AcceptFault}
@@ -29,7 +31,7 @@ use Rattle.coniks_client.specs.declared.histories.faults.HistoryFault.{HistoryFa
 use Rattle.coniks_client.specs.declared.histories.faults.HistoryFault.TheVariants as history
 use Rattle.coniks_quorum.specs.declared.states.reading.StateFault.{StateFault}
 use Rattle.coniks_quorum.specs.declared.states.reading.StateFault.TheVariants as state
-use Rattle.coniks_c.specs.Numbers.{auditors_differ, cut_in_entry, cut_in_step, cut_in_vrf, end_repeated, entry_length, epoch_order, equivocation, evidence_malformed, future, good, history_version, malformed, misuse_change_open, misuse_no_room, misuse_not_confirmed, misuse_not_later, misuse_same_key, no_history, no_reply, not_vouched, other_epoch, other_policy, reply_version, sibling_map, sibling_repeated, signature, stale, state_damaged, state_form, state_length, state_policy, state_version, too_deep, unknown_end, unknown_epoch, vrf_proof}
+use Rattle.coniks_c.specs.Numbers.{auditors_differ, chain_differs, cut_in_entry, cut_in_step, cut_in_vrf, end_repeated, entry_length, epoch_order, equivocation, evidence_malformed, future, good, history_version, malformed, misuse_change_open, misuse_no_room, misuse_not_confirmed, misuse_not_later, misuse_same_key, next_policy, no_history, no_reply, not_vouched, other_epoch, other_policy, other_start, reply_version, sibling_map, sibling_repeated, signature, stale, state_damaged, state_form, state_length, state_policy, state_version, succession_policy, succession_signature, too_deep, unknown_end, unknown_epoch, vrf_proof}
 use Rattle.coniks_c.specs.Statuses.{number_of_kind}
 use Rattle.coniks_c.specs.declared.core_values.RawWhy.{RawWhy}
 
@@ -110,6 +112,16 @@ abbrev pub start_status : StartFault → ℕ
 start_status (start.OfEntry fault) = entry_status fault
 start_status (start.AuditorsDiffer place) = auditors_differ
 start_status start.NotVouched = not_vouched
+
+-- a succession by which a client does not go on
+abbrev pub succession_status : SuccessionFault → ℕ
+succession_status succession.SuccessionPolicy = succession_policy
+succession_status succession.SuccessionSignature = succession_signature
+succession_status succession.NextPolicy = next_policy
+succession_status succession.UnknownEpoch = unknown_epoch
+succession_status succession.ChainDiffers = chain_differs
+succession_status (succession.OfEntry fault) = entry_status fault
+succession_status succession.OtherStart = other_start
 
 -- whether a client may rely on an epoch
 abbrev pub reliance_status : Reliance → ℕ

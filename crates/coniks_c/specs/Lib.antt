@@ -10,4 +10,5 @@ pub mod CoreStatuses
 pub mod CoreReported
 pub mod CoreQuorum
 pub mod CoreStates
+pub mod CoreSucceeding
 pub mod Guarding

@@ -154,6 +154,21 @@ future = 86
 abbrev pub vrf_proof : ℕ
 vrf_proof = 87
 
+abbrev pub succession_policy : ℕ
+succession_policy = 88
+
+abbrev pub succession_signature : ℕ
+succession_signature = 89
+
+abbrev pub next_policy : ℕ
+next_policy = 90
+
+abbrev pub chain_differs : ℕ
+chain_differs = 91
+
+abbrev pub other_start : ℕ
+other_start = 92
+
 abbrev pub state_length : ℕ
 state_length = 96
 

@@ -84,7 +84,7 @@ fn misused_start(core: &RawCore<'_, '_>, heads: &[RawHead]) -> u32
 }
 
 /// Returns the number of the first epoch.
-fn first_number(watch: &Option<Watch<'_>>, epoch: u64) -> u8
+pub(crate) fn first_number(watch: &Option<Watch<'_>>, epoch: u64) -> u8
     ensures { result ≡ new_number watch.now epoch }
 {
     match watch {
@@ -94,7 +94,7 @@ fn first_number(watch: &Option<Watch<'_>>, epoch: u64) -> u8
 }
 
 /// Writes the first stored epoch.
-fn put_first(stored: &mut [StoredEntry], mine: &StoredEntry, seen: u8)
+pub(crate) fn put_first(stored: &mut [StoredEntry], mine: &StoredEntry, seen: u8)
     requires { 0 < length stored.old }
     ensures { stored.new ≡ set stored.old 0 (record mine.now { seen = seen }) }
 {

@@ -1,7 +1,7 @@
 //! The statuses that the client's calls return to C.
 
 ghost use Rattle.std.specs.Prelude.{◌≡◌};
-ghost use Rattle.coniks_c.specs.CoreStatuses.{accept_status, age_status, convicted, entry_status, expect_status, feed_status, history_status, lookup_status, no_more, reliance_status, reply_status, start_status, state_status, why_of_conviction, why_of_entry, why_of_feed, why_of_lookup, why_of_start};
+ghost use Rattle.coniks_c.specs.CoreStatuses.{accept_status, age_status, convicted, entry_status, expect_status, feed_status, history_status, lookup_status, no_more, reliance_status, reply_status, start_status, state_status, succession_status, why_of_conviction, why_of_entry, why_of_feed, why_of_lookup, why_of_start};
 
 use crate::core_values::RawWhy;
 use crate::numbers;
@@ -13,6 +13,7 @@ use coniks_client::{
 };
 use coniks_quorum::relying::Reliance;
 use coniks_quorum::states::StateFault;
+use coniks_quorum::successions::SuccessionFault;
 use coniks_quorum::vouching::StartFault;
 
 /// Returns the status of an entry that is none of the directory.
@@ -140,6 +141,21 @@ pub fn start_status(fault: &StartFault) -> u32
         StartFault::OfEntry(fault) => entry_status(fault),
         StartFault::AuditorsDiffer(_) => numbers::AUDITORS_DIFFER,
         StartFault::NotVouched => numbers::NOT_VOUCHED,
+    }
+}
+
+/// Returns the status of a succession by which a client does not go on.
+pub fn succession_status(fault: &SuccessionFault) -> u32
+    ensures { result ≡ succession_status fault.now }
+{
+    match fault {
+        SuccessionFault::SuccessionPolicy => numbers::SUCCESSION_POLICY,
+        SuccessionFault::SuccessionSignature => numbers::SUCCESSION_SIGNATURE,
+        SuccessionFault::NextPolicy => numbers::NEXT_POLICY,
+        SuccessionFault::UnknownEpoch => numbers::UNKNOWN_EPOCH,
+        SuccessionFault::ChainDiffers => numbers::CHAIN_DIFFERS,
+        SuccessionFault::OfEntry(fault) => entry_status(fault),
+        SuccessionFault::OtherStart => numbers::OTHER_START,
     }
 }
 

@@ -144,7 +144,7 @@ pub extern "C" fn coniks_core_watch<'a>(
 }
 
 /// Writes a change.
-fn put<'a>(changes: &mut [Change<'a>], place: usize, change: &Change<'a>)
+pub(crate) fn put<'a>(changes: &mut [Change<'a>], place: usize, change: &Change<'a>)
     requires { place < length changes.old }
     ensures { changes.new ≡ set changes.old place change.now }
 {

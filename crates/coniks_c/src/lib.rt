@@ -19,6 +19,7 @@ mod core_report;
 mod core_start;
 mod core_state;
 mod core_status;
+mod core_succeed;
 mod core_values;
 mod core_watch;
 mod entries;
@@ -55,6 +56,7 @@ pub use core_state::{
     RawStateNeeds, coniks_core_state_needs, coniks_core_state_read, coniks_core_state_size,
     coniks_core_state_write,
 };
+pub use core_succeed::{RawSuccession, coniks_core_succeed};
 pub use core_values::{RawAsking, RawFound, RawNeeds, RawReceived, RawVerdicts, RawWatch, RawWhy};
 pub use core_watch::{coniks_core_expect, coniks_core_watch};
 pub use entries::{coniks_body_bytes, coniks_entry_body, coniks_link};

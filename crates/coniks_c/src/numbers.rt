@@ -153,6 +153,21 @@ pub const FUTURE: u32 = 86;
 /// The VRF proof is not one of this name.
 pub const VRF_PROOF: u32 = 87;
 
+/// The succession ends another policy.
+pub const SUCCESSION_POLICY: u32 = 88;
+
+/// The signature of the succession is not valid, or the policy has no such key.
+pub const SUCCESSION_SIGNATURE: u32 = 89;
+
+/// The succession names another policy to go on.
+pub const NEXT_POLICY: u32 = 90;
+
+/// Another stored entry covers the last epoch.
+pub const CHAIN_DIFFERS: u32 = 91;
+
+/// The succession names another first entry of the next chain.
+pub const OTHER_START: u32 = 92;
+
 /// The state has fewer than 110 bytes.
 pub const STATE_LENGTH: u32 = 96;
 
