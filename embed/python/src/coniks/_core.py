@@ -147,6 +147,13 @@ class StateNeeds(ctypes.Structure):
     ]
 
 
+class Succession(ctypes.Structure):
+    _fields_ = [
+        *[("signature", c_uint32), ("policy", _Bytes32), ("last_epoch", c_uint64), ("last_link", _Bytes32)],
+        *[("next_policy", _Bytes32), ("first_epoch", c_uint64), ("first_link", _Bytes32)],
+    ]
+
+
 # What several calls take.
 _core, _run, _size, _why = POINTER(Core), [c_char_p, c_size_t], POINTER(c_size_t), POINTER(Why)
 _received, _verdicts, _32 = POINTER(Received), POINTER(Verdicts), POINTER(_Bytes32)
@@ -163,6 +170,7 @@ _exports: _Exports = [
     ("coniks_core_confirmed", c_uint32, [_core, POINTER(c_uint64)]),
     ("coniks_core_relied", c_uint32, [_core, c_size_t]),
     ("coniks_core_start", c_uint32, [_core, POINTER(Head), c_size_t, _received, _why]),
+    ("coniks_core_succeed", c_uint32, [_core, POINTER(Succession), _received, _core, _size]),
     ("coniks_core_cover", c_uint32, [_core, c_uint64, POINTER(Covered)]),
     ("coniks_core_note", c_uint32, [_core, c_uint64]),
     ("coniks_core_report", c_uint32, [_core, c_uint64, POINTER(Report)]),

@@ -124,6 +124,11 @@ class Cause(enum.IntEnum):
     STALE = 85
     FUTURE = 86
     VRF_PROOF = 87
+    SUCCESSION_POLICY = 88
+    SUCCESSION_SIGNATURE = 89
+    NEXT_POLICY = 90
+    CHAIN_DIFFERS = 91
+    OTHER_START = 92
     STATE_LENGTH = 96
     STATE_VERSION = 97
     STATE_DAMAGED = 98
@@ -201,6 +206,11 @@ TEXTS = {
     Cause.STALE: "the latest epoch is too old by the policy's clock: feed a catch-up, or alarm",
     Cause.FUTURE: "the latest epoch has not begun by the policy's clock: see whether the clock is right, or alarm",
     Cause.VRF_PROOF: "the VRF proof is not one of this name: ask for the reply again",
+    Cause.SUCCESSION_POLICY: "the succession ends another policy: take the one of this directory",
+    Cause.SUCCESSION_SIGNATURE: "the policy's successor key did not sign the succession: ask the directory's operator",
+    Cause.NEXT_POLICY: "the succession names another policy to go on: take the policy document that it names",
+    Cause.CHAIN_DIFFERS: "the chain has another entry at the succession's last epoch: keep both, and ask auditors for their entry",
+    Cause.OTHER_START: "the succession names another first entry of the next chain: take the entry that it names",
     Cause.STATE_LENGTH: "a state has at least 110 bytes: restore the state that was stored last, or start anew with an auditor's head",
     Cause.STATE_VERSION: "the state has another version than 3: take the client that wrote it, or start anew with an auditor's head",
     Cause.STATE_DAMAGED: "the state was changed: restore the state that was stored last, or start anew with an auditor's head",

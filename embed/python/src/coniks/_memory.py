@@ -58,6 +58,10 @@ class Memory(_core.Core):
         self._texts = {**{at: it for at, it in self._texts.items() if at in used}, **dict(zip(places, texts))}
         return [(at, len(it)) for at, it in zip(places, texts)]
 
+    def share(self, other: Memory) -> None:
+        """Keeps the bytes that the watch and the changes of another one point at."""
+        self._texts, self._state = dict(other._texts), other._state
+
     # The stored epochs.
 
     def entry(self, place: int) -> bytes:

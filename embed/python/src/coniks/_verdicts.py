@@ -8,12 +8,15 @@ from __future__ import annotations
 
 import ctypes
 from types import ModuleType
-from typing import Any, Protocol, Sequence, Union
+from typing import TYPE_CHECKING, Any, Optional, Protocol, Sequence, Union
 
-from . import ENTRY_LENGTH, _Bytes32, _core
+from . import ENTRY_LENGTH, _Bytes32, _bytes32, _core
 from ._formats import Cause
 from ._layout import body_of, signature_of
 from ._messages import Refusal
+
+if TYPE_CHECKING:
+    from .succession import Succession
 
 
 class SignatureScheme(Protocol):
@@ -72,6 +75,13 @@ class Verifier:
         if not isinstance(index, bytes) or len(index) != 32:
             raise TypeError("an index is 32 bytes: look at the object that returns it")
         return _core.Verdicts(is_signed, True, _Bytes32.from_buffer_copy(index))
+
+
+def of_succession(it: Succession, key: Optional[bytes]) -> _core.Succession:
+    """Verifies the signature of a succession by the successor key of a policy, if there is one."""
+    last, first = (_bytes32(at.link, "the link") for at in (it.last, it.first))
+    ends, goes_on = (_bytes32(at, "a policy digest") for at in (it.policy, it.next_policy))
+    return _core.Succession(it.is_signed(key) is True, ends, it.last.epoch, last, goes_on, it.first.epoch, first)
 
 
 def part(whole: bytes, start: int, length: int) -> bytes:

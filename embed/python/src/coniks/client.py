@@ -31,6 +31,9 @@ may have been signed again.
     client.is_relied(found)                                 # whether a quorum of them confirms the epoch of what was found
     client.drop()                                           # what a quorum confirms, and what can no longer be verified
 
+    next = client.succeed(succession, next_policy, entry)   # the chain ends, and another directory goes on (`coniks.succession`)
+    next.client, next.void                                  # its client, and entries of this one that no longer count
+
 Public keys are 32 bytes, for Ed25519 and ECVRF-EDWARDS25519-SHA512-TAI; the module needs PyNaCl for them
 (`pip install coniks[client]`) and the C library, whose proved core decides all of this (include/coniks_core.h). For another scheme pass
 an object: a `SignatureScheme` or an `IndexScheme`. What its `verify` returns counts only if it is `True` itself. A client is for one
@@ -44,14 +47,17 @@ import enum
 import math
 import time
 from dataclasses import dataclass
-from typing import Any, Callable, Iterable, Iterator, Mapping, NoReturn, Optional, Sequence, Union
+from typing import TYPE_CHECKING, Any, Callable, Iterable, Iterator, Mapping, NoReturn, Optional, Sequence, Union
 
 from . import ENTRY_LENGTH, EvidenceKind, Head, Name, Policy, Status, _bytes, _bytes32, _core, _name, _number, convicts, link
 from ._core import library
 from ._formats import NO_EVIDENCE, Cause, Misuse
 from ._memory import Memory
 from ._messages import MISUSES, Evidence, Refusal
-from ._verdicts import IndexScheme, SignatureScheme, Verifier, part
+from ._verdicts import IndexScheme, SignatureScheme, Verifier, of_succession, part
+
+if TYPE_CHECKING:
+    from .succession import Succession
 
 __all__ = [
     "Alarm",
@@ -66,6 +72,7 @@ __all__ = [
     "Reported",
     "SignatureScheme",
     "Step",
+    "Succeeded",
     "Trust",
     "Watched",
 ]
@@ -163,6 +170,14 @@ class Report:
     what: Reported
     first: int
     last: int
+
+
+@dataclass(frozen=True)
+class Succeeded:
+    """A client of the directory that goes on, and the entries of the client before it that are void: those after the last epoch."""
+
+    client: Client
+    void: list[bytes]
 
 
 class Client:
@@ -292,8 +307,7 @@ class Client:
         received = self._verifier.of_received(entry)
         status = library.coniks_core_evidence(self._memory, received, why)
         if status == NO_EVIDENCE:
-            alone = convicts(entry, entry)
-            return Evidence(entry, entry, alone) if alone else None
+            return alone(entry)
         check(status)
         return self._evidence(why, entry)
 
@@ -329,6 +343,39 @@ class Client:
         now = self._second()
         self._memory = self._memory.with_room(alarms=len(self._memory.stored))
         return dropped(self._memory, now)
+
+    # The succession.
+
+    def succeed(
+        self,
+        succession: Succession,
+        policy: Policy,
+        entry: bytes,
+        *,
+        max_age: Optional[float] = None,
+        skew: float = 300,
+        clock: Optional[Clock] = None,
+        trust: Optional[Trust] = None,
+    ) -> Succeeded:
+        """Returns a client of the directory that a succession of this one's policy names, which watches the same name. `policy` is the next
+        policy, and `entry` the first of its chain that counts. This client stays as it is: if an entry is void, keep one with the
+        succession, and tell the user. The clock is this client's if none is given. Raises `Refusal`."""
+        key = self._policy.successor_key if self._policy else None
+        begun = Client(
+            policy.signing_key, policy.vrf_key, policy, max_age=max_age, skew=skew, clock=clock or self._clock, trust=trust
+        )
+        place = begun._go_on(self._memory, of_succession(succession, key), _bytes(entry, "an entry"))
+        return Succeeded(begun, self.entries[place + 1 :])
+
+    def _go_on(self, ended: Memory, succession: _core.Succession, entry: bytes) -> int:
+        """Goes on after a client whose chain ended, and returns the place of its last epoch."""
+        received, place = self._verifier.of_received(entry), ctypes.c_size_t()
+        received.time = self._second()
+        self._memory = memory = self._memory.with_room(stored=1, changes=1)
+        memory.share(ended)
+        status = library.coniks_core_succeed(ended, succession, received, memory, place)
+        check(status, evidence=alone(entry) if status in (Cause.OTHER_POLICY, Cause.MALFORMED) else None)
+        return place.value
 
     # Lookups.
 
@@ -385,6 +432,12 @@ class Client:
         named, expected = memory.hold(_name(name), expected_key(key))
         wanted = _core.Watch(1, *named, first, *expected)
         check(library.coniks_core_watch(memory, wanted, since is not None), length=named[1])
+
+    @property
+    def first_key(self) -> Optional[bytes]:
+        """The key that the first watched epoch must show, None if that must show none, or no name is watched."""
+        watch = self._memory.watch
+        return ctypes.string_at(watch.key, watch.key_length) if watch.is_watched and watch.key_length else None
 
     def expect(self, new: Optional[bytes], by: int) -> None:
         """Expects the owner's own change of the key: later epochs may show the old or the new key, and from epoch `by` on only
@@ -457,6 +510,12 @@ def check(status: int, of_entry: Optional[Status] = None, evidence: Optional[Evi
         raise ValueError(MISUSES[Misuse(status)].format(**values))
     if status:
         raise Refusal(Cause(status), of_entry, evidence)
+
+
+def alone(entry: bytes) -> Optional[Evidence]:
+    """What a signed entry that no chain has convicts the provider with: itself."""
+    kind = convicts(entry, entry)
+    return Evidence(entry, entry, kind) if kind else None
 
 
 def dropped(memory: Memory, now: int) -> list[int]:

@@ -21,6 +21,7 @@ _TEXT = re.compile(
     "(?:epoch-start " + _NUMBER + "\nepoch-period " + _NUMBER + "\n)?"
     "evidence one-chain\n"
     "(records vouched\n)?"
+    "(?:successor-key (none|[0-9a-f]{64})\n)?"
     "proofs-kept (?:forever|" + _NUMBER + ")\n"
 )
 
@@ -47,7 +48,9 @@ class Policy:
     (Ed25519), and `vrf_key` that of its VRF (ECVRF-EDWARDS25519-SHA512-TAI), None without a VRF. Epoch 1 begins at
     `epoch_start`, in Unix seconds, and each epoch lasts `epoch_period` seconds; both are None in a directory without a clock.
     Proofs are kept for `proofs_kept` seconds, for ever if it is None. With `records_vouched` each key is a record of its owner
-    (`coniks.vouching`), and two replies that show a change which the owner did not sign convict the directory.
+    (`coniks.vouching`), and two replies that show a change which the owner did not sign convict the directory. `successor_key` is the
+    public key that signs a succession (`coniks.succession`), of no byte if the document says that there is none, and None if it says
+    nothing: then there is none either.
     """
 
     origin: str
@@ -57,6 +60,7 @@ class Policy:
     epoch_period: Optional[int] = None
     proofs_kept: Optional[int] = None
     records_vouched: bool = False
+    successor_key: Optional[bytes] = None
 
     def __post_init__(self) -> None:
         if not isinstance(self.origin, str):
@@ -75,6 +79,10 @@ class Policy:
             _check_number(self.proofs_kept, 0, "how long proofs are kept")
         if not isinstance(self.records_vouched, bool):
             raise TypeError(f"whether records are vouched is True or False, not {type(self.records_vouched).__name__}")
+        if self.successor_key is not None and self.successor_key != b"":
+            _check_key(self.successor_key, "the successor key")
+        if self.successor_key == self.signing_key:
+            raise ValueError("the successor key is kept offline: it is another one than the signing key")
 
     @classmethod
     def read(cls, text: bytes) -> Policy:
@@ -84,10 +92,11 @@ class Policy:
         found = _TEXT.fullmatch(bytes(text).decode("latin-1"))
         if not found:
             raise ValueError("this is no policy document of docs/FORMATS.md: take the bytes that its directory publishes")
-        origin, signing_key, vrf_key, records = found.group(1, 2, 3, 6)
-        start, period, stored = (None if it is None else int(it) for it in found.group(4, 5, 7))
+        origin, signing_key, vrf_key, records, successor = found.group(1, 2, 3, 6, 7)
+        start, period, stored = (None if it is None else int(it) for it in found.group(4, 5, 8))
         keys = bytes.fromhex(signing_key), None if vrf_key is None else bytes.fromhex(vrf_key)
-        return cls(origin, *keys, start, period, stored, records_vouched=records is not None)
+        successor_key = None if successor is None else bytes.fromhex(successor.replace("none", ""))
+        return cls(origin, *keys, start, period, stored, records is not None, successor_key)
 
     def __bytes__(self) -> bytes:
         """The document, which clients and auditors get."""
@@ -97,7 +106,9 @@ class Policy:
         clock = [] if self.epoch_start is None else [f"epoch-start {self.epoch_start}", f"epoch-period {self.epoch_period}"]
         stored = "forever" if self.proofs_kept is None else self.proofs_kept
         lines = ["policy coniks-1", f"origin {self.origin}", "signature Ed25519", f"signing-key {self.signing_key.hex()}"]
-        promises = ["evidence one-chain", *(["records vouched"] if self.records_vouched else []), f"proofs-kept {stored}"]
+        records = ["records vouched"] if self.records_vouched else []
+        successor = [] if self.successor_key is None else [f"successor-key {self.successor_key.hex() or 'none'}"]
+        promises = ["evidence one-chain", *records, *successor, f"proofs-kept {stored}"]
         return "".join(f"{it}\n" for it in [*lines, *vrf, *clock, *promises]).encode()
 
     @property
