@@ -99,18 +99,18 @@ def is_signed_again(entry: bytes, latest: bytes) -> bool:
     return body_of(entry) == body_of(latest) and entry != latest
 
 
-def new_entries(client: Client, source: str, is_whole: bool = False, again: bool = False) -> Iterator[bytes]:
+def new_entries(client: Client, source: str, is_whole: bool = False, again: bool = False, query: str = "") -> Iterator[bytes]:
     """The entries that a service or an auditor has and a client lacks. They are asked for from the client's latest one on, so that
     another one in its place is noticed; or from the first one on, since only whole entries convict. With `again` those are among them
     whose body the client has with another signature. Raises `Unusable` and `Refusal`. A source that never ends is left after some pages
-    or minutes, and the next call goes on.
+    or minutes, and the next call goes on. `query` is added to the targets, `&policy=` and a digest for a directory that has ended.
     """
     entries = client.entries
     latest = (entries or [bytes(ENTRY_LENGTH)])[-1]
     known = {it if again else body_of(it) for it in entries}
     start = after = 0 if is_whole else epoch_before(latest)
     pages, until = 0, time.monotonic() + LONGEST
-    while page := entries_of(fetched(f"{source}/v1/entries?after={after}")):
+    while page := entries_of(fetched(f"{source}/v1/entries?after={after}{query}")):
         if pages and (pages >= PAGES or time.monotonic() > until):
             raise Unusable(Verdict.MORE_ENTRIES, source=source)
         pages += 1

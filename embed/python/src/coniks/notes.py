@@ -4,8 +4,13 @@
     note.head(policy)                                      # epoch and link
     is_agreed(note, auditors, faulty=1, since=time.time() - 600)
 
-An auditor's cosignature says that it was fed every entry up to this head, and never signed a head that overlaps it. The module needs
-PyNaCl.
+An auditor's cosignature says that it was fed every entry up to this head, and never signed a head that overlaps it. Auditors cosign
+successions (`coniks.succession`) in the same way:
+
+    succession, note = read_succession(document)           # of a service or of an auditor
+    succession.is_signed(policy.successor_key), note.times(auditors)
+
+The module needs PyNaCl.
 """
 
 from __future__ import annotations
@@ -23,8 +28,9 @@ from nacl.signing import SigningKey
 from . import Head
 from ._ecvrf import is_key, is_signed
 from .policy import Policy
+from .succession import Succession
 
-__all__ = ["Auditor", "BadNote", "Note", "cosign", "is_agreed", "quorum", "read_note", "text_of"]
+__all__ = ["Auditor", "BadNote", "Note", "cosign", "is_agreed", "quorum", "read_note", "read_succession", "text_of"]
 
 # The most seconds by which the clock of an auditor or of a directory may be ahead.
 SKEW = 300
@@ -73,7 +79,7 @@ class Auditor:
 
 @dataclass(frozen=True)
 class Note:
-    """A head as a text, and the lines of its signatures."""
+    """A head or a succession as a text, and the lines of its signatures."""
 
     text: str
     lines: tuple[str, ...]
@@ -151,6 +157,19 @@ def read_note(document: bytes) -> Note:
     if not text or lines.pop() or not lines or not all(map(_LINE.fullmatch, lines)):
         raise BadNote("a note is a text, an empty line and the lines of signatures")
     return Note(text + "\n", tuple(lines))
+
+
+def read_succession(document: bytes) -> tuple[Succession, Note]:
+    """Returns a signed succession and its note: a service serves the text alone, so that its note has no line, and an auditor a note.
+    Nothing is verified. Raises `BadNote`."""
+    note = read_note(document) if b"\n\n" in document else Note(document.decode("latin-1"), ())
+    try:
+        succession = Succession.read(note.text.encode())
+    except ValueError as error:
+        raise BadNote(str(error)) from None
+    if not succession.signature:
+        raise BadNote("the succession is not signed")
+    return succession, note
 
 
 def quorum(auditors: int, faulty: int) -> int:
