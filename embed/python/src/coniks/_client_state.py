@@ -33,17 +33,26 @@ class StateFile:
         """The members that are stored. Raises `Unusable` if there is no file, one that was cut or changed, or one of another version."""
         if not self.path.exists():
             raise Unusable(Verdict.STATE_LACKING, path=self.path)
-        front, _, text = self.path.read_bytes().partition(b"\n")
-        words = front.decode("latin-1").split(" ")
-        if len(words) != 3 or words[0] != _NAME or words[2] != hashlib.sha256(text).hexdigest():
-            raise Unusable(Verdict.STATE_NONE, path=self.path)
-        if words[1] != _VERSION:
-            raise Unusable(Verdict.STATE_VERSION, path=self.path)
-        members: dict[str, Any] = json.loads(text)
-        return members
+        return members_of(self.path.read_bytes(), self.path)
 
     def write(self, members: dict[str, Any]) -> None:
         """Stores members durably in the place of the others."""
-        text = json.dumps(members).encode()
-        front = f"{_NAME} {_VERSION} {hashlib.sha256(text).hexdigest()}\n"
-        rewrite(self.path, front.encode() + text, 0o600)
+        rewrite(self.path, text_of(members), 0o600)
+
+
+def text_of(members: dict[str, Any]) -> bytes:
+    """What a file has."""
+    text = json.dumps(members).encode()
+    return f"{_NAME} {_VERSION} {hashlib.sha256(text).hexdigest()}\n".encode() + text
+
+
+def members_of(whole: bytes, path: Path) -> dict[str, Any]:
+    """The members of what the file at a path has. Raises `Unusable`."""
+    front, _, text = whole.partition(b"\n")
+    words = front.decode("latin-1").split(" ")
+    if len(words) != 3 or words[0] != _NAME or words[2] != hashlib.sha256(text).hexdigest():
+        raise Unusable(Verdict.STATE_NONE, path=path)
+    if words[1] != _VERSION:
+        raise Unusable(Verdict.STATE_VERSION, path=path)
+    members: dict[str, Any] = json.loads(text)
+    return members

@@ -3,19 +3,21 @@
 from __future__ import annotations
 
 import base64
+import hashlib
 import json
 from contextlib import suppress
-from typing import Any, Callable, Optional
+from typing import Any, Callable, Collection, Mapping, Optional
 from urllib.parse import quote
 
-from . import Policy
+from . import Body, Policy
 from ._client_state import StateFile
 from ._http import Answer, answered, check_time, check_token, new_entries
+from ._messages import Reply
 from ._telling import Notice, Telling, Unusable, Verdict
 from .client import Client, Found, Refusal
 from .notes import Auditor, BadNote
 from .trust import Trust
-from .vouching import Change, Place, Record, convicts, judged
+from .vouching import Change, Place, Span, Value, convicts, judged
 
 # The statuses by which a service asks who someone is.
 _WHO = (401, 403)
@@ -36,13 +38,13 @@ class Person:
 
     def __init__(self, file: StateFile, members: dict[str, Any], tell: Telling):
         self._file, self.tell = file, tell
-        self.state: dict[str, Any] = {"past": {}, "alone": False, **members}
+        beside = {"past": {}, "dropped": [], "alone": False, "goes_on": False, "before": []}
+        self.state: dict[str, Any] = {**beside, **members}
         try:
             self.policy = Policy.read(members["policy"].encode())
             tell.origin = self.policy.origin
             self.auditors = {url: Auditor.read(key) for url, key in members["auditors"]}
-            named = tuple(self.auditors.values())
-            self.trust = Trust(self.policy.digest, named, members["faulty"]) if named else None
+            self.trust = trust_of(self.auditors.values(), self.state, self.policy)
             self.chain = self.opened(members["chain"])
         except (KeyError, TypeError, ValueError, AttributeError, Refusal) as error:
             raise self.changed(error) from error
@@ -57,7 +59,18 @@ class Person:
         return Client(*keys, self.policy, bytes.fromhex(state) if state else None, trust=trust)
 
     def place(self, name: str) -> Place:
-        return Place(self.policy.digest, name)
+        return Place.of(self.policy, name)
+
+    def time_of(self, epoch: int) -> Optional[int]:
+        """When an epoch begins, in Unix seconds, None without a clock."""
+        start, period = self.policy.epoch_start, self.policy.epoch_period
+        return None if start is None or period is None else start + (epoch - 1) * period
+
+    @property
+    def week(self) -> int:
+        """As many epochs as are 7 days, 0 without a clock."""
+        period = self.policy.epoch_period
+        return 0 if period is None else max(1, -(-7 * 86400 // period))
 
     def save(self) -> None:
         """Stores the state, once it has an entry: a directory that was never reached leaves none."""
@@ -136,7 +149,10 @@ class Person:
         seen = self.state["seen"].get(name)
         if seen is None:
             return None
-        change = judged(self.place(name), bytes.fromhex(seen["value"]), value)
+        span = span_of(bytes.fromhex(seen["reply"]), reply)
+        # What an epoch before a succession showed may have been signed under that policy.
+        earlier = [] if span else [hashlib.sha256(it["policy"].encode()).digest() for it in self.state["before"]]
+        change = judged(Place.of(self.policy, name, earlier), bytes.fromhex(seen["value"]), value, span)
         if change is Change.UNVOUCHED and convicts(self.policy, name, bytes.fromhex(seen["reply"]), reply):
             self.keep("unvouched", bytes.fromhex(seen["reply"]), reply, name=name)
         return change
@@ -146,10 +162,22 @@ class Person:
         self.save()
 
 
+def trust_of(auditors: Collection[Auditor], state: Mapping[str, Any], policy: Policy) -> Optional[Trust]:
+    """The auditors of a state under a policy, None if there are none."""
+    successor = policy.successor_key if state["goes_on"] else None
+    return Trust(policy.digest, tuple(auditors), state["faulty"], successor or None) if auditors else None
+
+
+def span_of(before: bytes, now: bytes) -> Optional[Span]:
+    """The epochs of two replies, None if they are of different policies."""
+    earlier, later = (Body.of_entry(Reply.read(it).entry) for it in (before, now))
+    return Span(earlier.epoch, later.previous_epoch, later.epoch) if earlier.policy == later.policy else None
+
+
 def bare(value: bytes) -> bytes:
-    """The owner's key in a name's bytes."""
-    record = Record.read(value)
-    return record.key if record else value
+    """The owner's key in a name's bytes, of no byte if its owner has closed the name."""
+    found = Value.read(value)
+    return found.record.key if found else value
 
 
 def key_text(value: bytes) -> str:

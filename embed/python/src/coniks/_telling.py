@@ -9,6 +9,7 @@ from __future__ import annotations
 import enum
 import json
 import string
+import time
 from typing import Any, Callable, Iterable, Mapping, Optional, Sequence
 
 from .names import shown
@@ -18,14 +19,14 @@ from .names import shown
 ALARM, UNVERIFIED, ABSENT, WELL, STOPPED = 1, 3, 4, 0, 130
 # How sentences about the key of a name begin and end, and what JSON has of it.
 _HAS, _AT, _OF_KEY = '{name!n} has the key "{key}"', " (epoch {epoch}{by!b})", "name epoch key before change"
-_SIGNED = f'{_HAS} in place of "{{before}}", and its owner signed the change'
+_SIGNED = f'{_HAS} in place of "{{before}}", and the change was signed with its owner\'s secret key'
 
 
 @enum.unique
 class Verdict(enum.Enum):
     """A verdict: its status, its sentence, and which of the sentence's values JSON has. In a sentence `!n` shows a name, `!k` a key or
-    that there is none, `!e` epochs, `!o` own keys with their epochs, `!v` whether a key was verified, and `!b` who confirms it. One without
-    a sentence prints nothing."""
+    that there is none, `!e` epochs, `!o` own keys with their epochs, `!v` whether a key was verified, `!b` who confirms it, `!t` a time, and
+    `!d` how long a notice was. One without a sentence prints nothing."""
 
     # The key of a name.
     KEY = WELL, f"{_HAS}{{is_verified!v}}{_AT}", _OF_KEY
@@ -39,9 +40,22 @@ class Verdict(enum.Enum):
     )
     KEY_UNVOUCHED = (
         ALARM,
-        f'{_HAS}, and the owner of the key before, "{{before}}", did not sign the change: don\'t use it{_AT}',
+        f'{_HAS}, and the change was not signed with the secret key of the one before, "{{before}}": don\'t use it{_AT}',
         _OF_KEY,
     )
+    KEY_RESET = (
+        ALARM,
+        f'{{name!n}} was reset{{notice!d}}, and has the key "{{key}}" in place of "{{before}}": verify it by another channel{_AT}',
+        _OF_KEY,
+    )
+    KEY_CLOSED = ABSENT, f"{{name!n}} was closed by its owner{_AT}", _OF_KEY
+    KEY_ANNOUNCED = (
+        WELL,
+        "a reset of {name!n} is announced: from epoch {effect}{time!t} on somebody else can have it, unless its owner takes that back",
+        "name effect",
+    )
+    FINGERPRINT = WELL, f"{{name!n}} has the fingerprint {{fingerprint}}{_AT}", "name epoch fingerprint"
+    FINGERPRINT_UNCONFIRMED = UNVERIFIED, *FINGERPRINT[1:]
     KEY_OTHER = ALARM, f'{{name!n}} has another key, "{{key}}": don\'t use it{_AT}', _OF_KEY
     KEY_NOT_YOURS = ALARM, f"{{name!n}} has {{key!k}}, which is not yours: tell all who use it{_AT}", _OF_KEY
     KEY_GONE = ALARM, f'{{name!n}} has no key any more, and no directory removes a name. Its key was "{{before}}"{_AT}', _OF_KEY
@@ -52,6 +66,36 @@ class Verdict(enum.Enum):
     OWN_SHOWN = WELL, "{name!n} has your key {keys!o}", "name epochs key report"
     OWN_CHANGED = ALARM, "{name!n} has {key!k} ({epochs!e}), which is not yours: tell all who use it", "name epochs key"
     OWN_ALARM = ALARM, "{name!n} did not have your key ({epochs!e}): tell all who use it", "name epochs"
+    OWN_CLOSED = WELL, "{name!n} is closed, by you ({epochs!e})", "name epochs"
+    OWN_CLOSED_EVER = UNVERIFIED, "{name!n} was closed by you, and has no key any more: register another name"
+    OWN_ANNOUNCED = (
+        ALARM,
+        "a reset of {name!n} is announced: from epoch {effect}{time!t} on somebody else can have it. If you have not lost its secret key, "
+        "run coniks-client keep",
+        "name effect voucher",
+    )
+    OWN_UNANNOUNCED = WELL, "no reset of {name!n} is announced, so there is nothing to take back"
+    OWN_TWIN = (
+        ALARM,
+        "{name!n} has {key!k} ({epochs!e}), signed with your secret key by another device. If that is yours, run coniks-client adopt, and "
+        "change the name on one device only. Else your secret key is stolen: tell all who use the name",
+        "name epochs key",
+    )
+    OWN_ADOPTED = WELL, '{name!n}: this state goes on from the record with the key "{key}" (epoch {epoch})', "name epoch key"
+    OWN_NO_TWIN = UNVERIFIED, "{name!n} shows no later record of your secret key, so there is nothing to adopt"
+    OWN_VOUCHER = (
+        UNVERIFIED,
+        "{name!n} has no reset to you yet: give the voucher {voucher} to the operator of the directory, who must know that you are the owner",
+        "name voucher",
+    )
+    OWN_RESET_WAITS = (
+        UNVERIFIED,
+        "a reset of {name!n} to you is announced: run the command again from epoch {effect}{time!t} on",
+        "name effect",
+    )
+    OWN_KNOWN = UNVERIFIED, "{name!n} is yours, and you have its secret key: change it by coniks-client register"
+    OWN_FREE = UNVERIFIED, "{name!n} has no key: take it by coniks-client register"
+    OWN_NEVER = UNVERIFIED, "{name!n} is never reset: its owner chose that, or vouches for nothing. Register another name"
     OWN_MISSING = UNVERIFIED, "{name!n}: the service shows no proof for {missing!e}", "name missing"
     OWN_OVERDUE = (
         ALARM,
@@ -100,16 +144,65 @@ class Verdict(enum.Enum):
     AUDITOR_UNKNOWN = UNVERIFIED, "no auditor has this URL: give one of {urls}"
     AUDITORS_FEW = UNVERIFIED, "name at least two auditors, or give --without-auditors: then nobody notices another chain"
 
+    # A directory that ends.
+    SUCCEEDED = WELL, "the directory ended at epoch {epoch}, and {origin} goes on from epoch {first}", "epoch first"
+    SUCCESSION_NEW = (
+        ALARM,
+        "the directory says that it ended at epoch {epoch}, and that another one goes on: ask its operator, and then run coniks-client succeed",
+        "epoch",
+    )
+    SUCCESSION_FEW = (
+        UNVERIFIED,
+        "{agreeing} of your auditors confirm that the directory ended at epoch {epoch}, and {needed} must: rely on nothing new",
+        "epoch agreeing needed",
+    )
+    SUCCESSION_ELSEWHERE = (
+        UNVERIFIED,
+        "the directory ended at epoch {epoch}, and your service doesn't have the one that goes on: give its URL by coniks-client set --service",
+        "epoch",
+    )
+    SUCCESSION_NONE = UNVERIFIED, "neither the service nor an auditor shows that the directory has ended"
+    SUCCESSION_VOID = (
+        ALARM,
+        "the directory signed {epochs!e} after its last epoch {epoch}: its signing key was stolen, or it takes back what it signed",
+        "epochs epoch",
+    )
+    SUCCESSION_DIFFERS = (
+        ALARM,
+        "the directory ended at epoch {epoch} with another entry than you were shown: go on by coniks-client succeed --anew, and compare keys",
+        "epoch",
+    )
+    SUCCESSIONS = ALARM, "the directory has signed two successions, which convict it: ask its operator which one is right"
+    KEY_VOID = ALARM, '{name!n} had the key "{key}" at epoch {epoch}, which is void: look it up again', "name epoch key"
+    OWN_NOT_TAKEN = (
+        UNVERIFIED,
+        'the key "{key}" of {name!n} was not registered when the directory ended: register it again',
+        "name key",
+    )
+    OWN_BEFORE_MISSING = UNVERIFIED, "{name!n}: nobody has verified {missing!e} of the directory before", "name missing"
+    OWN_BEFORE_ALARM = (
+        ALARM,
+        "{name!n} did not have your key in the directory before ({epochs!e}): tell all who use it",
+        "name epochs",
+    )
+
     # What convicts the directory, and what the user must see.
     FOUND = ALARM, "something was found that you must see: run coniks-client evidence"
     FOUND_NOTHING = WELL, "nothing was found that convicts the directory"
     FOUND_ENTRIES = ALARM, "two signed entries that one chain can't have convict the directory", "policy kind evidence why"
     FOUND_UNVOUCHED = (
         ALARM,
-        "{name!n}: two replies convict the directory: the owner of the key in the first did not sign what the second shows",
+        "{name!n}: two replies convict the directory: the key in the second was not signed with the owner's secret key, and no notice of a "
+        "reset allows it",
         "policy kind evidence name",
     )
     FOUND_CHANGED = ALARM, "{name!n}: a reply shows another key than yours; alone it convicts nobody", "policy kind evidence name"
+    FOUND_SUCCESSIONS = ALARM, "two successions of one directory convict it: its successor key signed both", "policy kind evidence"
+    FOUND_VOID = (
+        ALARM,
+        "the directory signed an entry that its succession excludes: its signing key was stolen, or it takes back what it signed",
+        "policy kind evidence",
+    )
     FOUND_HEAD = (
         ALARM,
         "an auditor cosigned a head that your chain lacks; it convicts nobody alone: ask the auditor for its entries",
@@ -146,6 +239,28 @@ class Verdict(enum.Enum):
     STATE_VERSION = UNVERIFIED, "{path} is a state of another version of coniks-client: use that version, or begin anew"
     STATE_CHANGED = UNVERIFIED, "{path} was changed: {reason}"
 
+    # A state that moves to another device.
+    EXPORTED = (
+        WELL,
+        "{file} has your whole state with its secret keys: import it on another device, and from then on change keys on one device only",
+        "file",
+    )
+    IMPORTED = (
+        WELL,
+        "{path} has the state up to epoch {epoch}, first seen {age} ago: change keys on this device only, not on the one it comes from",
+        "epoch seen",
+    )
+    EXPORT_THERE = UNVERIFIED, "{file} is there already, and is left as it is: give another file"
+    IMPORT_NONE = UNVERIFIED, "{file} is no exported state, or was cut: take the file that coniks-client export wrote"
+    IMPORT_VERSION = UNVERIFIED, "{file} was exported by another version of coniks-client: use that version"
+    IMPORT_LIMITS = UNVERIFIED, "{file} asks for more than an exported state takes: take the file that coniks-client export wrote"
+    IMPORT_CLOSED = UNVERIFIED, "the passphrase is wrong, or {file} was changed: nobody can tell which of both"
+    PASSPHRASE_NONE = UNVERIFIED, "the passphrase is empty: choose one that nobody can guess"
+    PASSPHRASE_DIFFERS = UNVERIFIED, "you have typed two passphrases: run the command again"
+    PASSPHRASE_UNASKED = UNVERIFIED, "no terminal asks for a passphrase: give --passphrase with a file that has it"
+    PASSPHRASE_SHARED = UNVERIFIED, "others can read {file}, which has a passphrase: chmod 600, and change it if they have"
+    PASSPHRASE_MEMORY = UNVERIFIED, "there is too little memory for the passphrase, which takes {size} MiB: close other programs"
+
     # `coniks-audit`.
     AUDITED = WELL, ""
     AUDIT_ALARM = ALARM, "{source}: {why}"
@@ -158,7 +273,34 @@ class Verdict(enum.Enum):
     AUDIT_TAKEN = UNVERIFIED, "another process audits in {folder}"
     AUDIT_CHANGED = UNVERIFIED, "{folder} was changed, or is an old backup: {reason}"
     AUDIT_LACKS = UNVERIFIED, "{folder} was changed, or is an old backup: the entries lack the head that was cosigned"
+    AUDIT_OTHER = UNVERIFIED, "{folder} is of another directory: give each policy a folder of its own"
     AUDIT_ENDED = UNVERIFIED, "{kind}: {reason}"
+
+    # The succession of an auditor's directory, and that of the one before.
+    AUDIT_SUCCEEDED = (
+        WELL,
+        "the directory ends with epoch {epoch}, and goes on under the policy {policy}: audit that --before {folder}",
+    )
+    AUDIT_UNCOMPARED = WELL, "epoch {epoch} and the last one before it have no roots to compare: VRF or nonce is another one"
+    AUDIT_SUCCESSIONS = ALARM, "{source}: it shows another succession of this directory, and the successor key signed both"
+    AUDIT_VOID = (
+        ALARM,
+        "{source}: an entry is signed after the directory's last epoch: the signing key was stolen, or the directory takes entries back",
+    )
+    AUDIT_END_DIFFERS = ALARM, "{source}: the entry of the last epoch is another one than the succession names"
+    AUDIT_START_DIFFERS = (
+        ALARM,
+        "{source}: the entry of the first epoch that counts is another one than the succession before names",
+    )
+    AUDIT_ROOTS_DIFFER = ALARM, "{source}: the first epoch that counts shows other keys than the last one of the directory before"
+    AUDIT_UNSIGNED = UNVERIFIED, "{source}: the succession is of another directory, or its successor key did not sign it"
+    AUDIT_UNENDED = UNVERIFIED, "{source}: the entries up to epoch {epoch} are withheld, with which the directory ends"
+    AUDIT_SUCCESSION_CHANGED = (
+        UNVERIFIED,
+        "{folder} was changed, or is an old backup: its succession is not the one that was cosigned",
+    )
+    AUDIT_NOT_BEFORE = UNVERIFIED, "{folder} has no directory that this one goes on from: {reason}"
+    AUDIT_NOT_NEXT = UNVERIFIED, "{folder} has no directory that this one goes on from: another policy is next, {policy}"
 
     def __init__(self, status: int, text: str, members: str = ""):
         self.status, self.text, self.members = status, text, members.split()
@@ -209,7 +351,7 @@ def worst(statuses: Iterable[int]) -> int:
 def event_of(verdict: Verdict) -> str:
     """What the lines of `coniks-audit` call a verdict."""
     named = {Verdict.AUDIT_LATE: "late", Verdict.AUDIT_ENDED: "ended"}
-    return named.get(verdict) or {ALARM: "alarm", UNVERIFIED: "unusable"}[verdict.status]
+    return named.get(verdict) or {ALARM: "alarm", UNVERIFIED: "unusable", WELL: "succession"}[verdict.status]
 
 
 def printable(text: str) -> str:
@@ -236,6 +378,20 @@ def own_keys(keys: Sequence[tuple[str, Sequence[int], Verdict]]) -> str:
     return " and ".join(f'"{key}" ({in_words(epochs)}{confirmed_by(by)})' for key, epochs, by in keys)
 
 
+def timed(seconds: Optional[int]) -> str:
+    """A time in words, for a sentence about an epoch. There is none without a clock."""
+    return "" if seconds is None else time.strftime(", %Y-%m-%d %H:%M UTC,", time.gmtime(seconds))
+
+
+def noticed(seconds: Optional[int]) -> str:
+    """How long a notice was, if that is known."""
+    if not seconds:
+        return ""
+    size, unit = next((it for it in ((86400, "day"), (3600, "hour"), (60, "minute")) if seconds % it[0] == 0), (1, "second"))
+    count = seconds // size
+    return f" after {count} {unit}{'s' * (count > 1)} of notice"
+
+
 _CONVERSIONS: dict[Optional[str], Callable[[Any], str]] = {
     "n": shown,
     "k": lambda key: "no key" if key is None else f'the key "{key}"',
@@ -243,6 +399,8 @@ _CONVERSIONS: dict[Optional[str], Callable[[Any], str]] = {
     "o": own_keys,
     "v": lambda is_verified: "" if is_verified else ". You have not verified it yet",
     "b": confirmed_by,
+    "t": timed,
+    "d": noticed,
 }
 
 

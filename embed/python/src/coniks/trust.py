@@ -15,27 +15,34 @@ from __future__ import annotations
 import hashlib
 import re
 from dataclasses import dataclass
+from typing import Optional
 
 from . import client
 from .notes import Auditor, quorum
 
 __all__ = ["Trust"]
 
-_TEXT = re.compile("trust coniks-1\npolicy ([0-9a-f]{64})\n((?:auditor [!-~]+\n)+)faulty (0|[1-9][0-9]{0,3})\n")
+_TEXT = re.compile(
+    "trust coniks-1\npolicy ([0-9a-f]{64})\n(?:successor-key ([0-9a-f]{64})\n)?((?:auditor [!-~]+\n)+)faulty (0|[1-9][0-9]{0,3})\n"
+)
 
 
 @dataclass(frozen=True)
 class Trust:
-    """A policy digest, the auditors, at least two in any order, and how many of them may lie or be silent. Raises `ValueError` if an
-    auditor is listed twice, by its name or by its key, or if no quorum can be formed."""
+    """A policy digest, the auditors, at least two in any order, and how many of them may lie or be silent. `successor_key` is that of the
+    policy if clients go on by its successions without a word of their users, None otherwise. Raises `ValueError` if an auditor is listed
+    twice, by its name or by its key, or if no quorum can be formed."""
 
     policy: bytes
     auditors: tuple[Auditor, ...]
     faulty: int
+    successor_key: Optional[bytes] = None
 
     def __post_init__(self) -> None:
         if len(self.policy) != 32:
             raise ValueError(f"a policy digest has 32 bytes, not {len(self.policy)}")
+        if self.successor_key is not None and len(self.successor_key) != 32:
+            raise ValueError(f"a successor key has 32 bytes, not {len(self.successor_key)}")
         if len(self.auditors) < 2:
             raise ValueError("at least two auditors are needed")
         if any(len(set(its)) < len(self.auditors) for its in zip(*((it.name, it.key) for it in self.auditors))):
@@ -47,15 +54,17 @@ class Trust:
         """Returns what a document says. Raises `ValueError` for any other bytes, so that it has one fingerprint."""
         found = _TEXT.fullmatch(text.decode("latin-1"))
         if found:
-            auditors = (Auditor.read(it.partition(" ")[2]) for it in found[2].splitlines())
-            trust = cls(bytes.fromhex(found[1]), tuple(auditors), int(found[3]))
+            auditors = (Auditor.read(it.partition(" ")[2]) for it in found[3].splitlines())
+            successor = bytes.fromhex(found[2]) if found[2] else None
+            trust = cls(bytes.fromhex(found[1]), tuple(auditors), int(found[4]), successor)
         if not found or bytes(trust) != text:
             raise ValueError("this is no trust document of docs/FORMATS.md: take the bytes that coniks-client has written")
         return trust
 
     def __bytes__(self) -> bytes:
         """The document."""
-        return f"trust coniks-1\npolicy {self.policy.hex()}\n{''.join(self._lines)}faulty {self.faulty}\n".encode()
+        successor = f"successor-key {self.successor_key.hex()}\n" if self.successor_key else ""
+        return f"trust coniks-1\npolicy {self.policy.hex()}\n{successor}{''.join(self._lines)}faulty {self.faulty}\n".encode()
 
     @property
     def _lines(self) -> list[str]:
