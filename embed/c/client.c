@@ -47,6 +47,8 @@ static uint32_t take_policy(coniks_client *client)
     uint32_t status;
     if (settings->policy) {
         status = client_read_policy(client_slice_of(settings->policy, settings->policy_length), &keys, rules);
+        client->keys.successor = keys.successor;
+        client->keys.has_successor = keys.has_successor;
         return status ? status : client_take_keys(client, &keys);
     }
     if (settings->policy_digest == NULL)
@@ -186,6 +188,46 @@ uint32_t coniks_client_vouched(coniks_client **client, const coniks_client_setti
     if (vouching->head_count > MANY_HEADS)
         return hand_over(client, CONIKS_CLIENT_E_MANY_HEADS);
     return hand_over(client, start(*client, vouching, why));
+}
+
+/* Writes the kind of the evidence that a refused entry is by itself, if no chain has it. */
+static void convict_alone(struct slice entry, uint32_t status, coniks_why *why)
+{
+    why->mine = SIZE_MAX;
+    if (status == CONIKS_CLIENT_E_OTHER_POLICY || status == CONIKS_CLIENT_E_MALFORMED)
+        (void)!coniks_convicts(entry.bytes, entry.length, entry.bytes, entry.length, &why->kind);
+}
+
+/* Goes on after a client whose chain ended. */
+static uint32_t go_on(coniks_client *next, const coniks_client *ended, const coniks_succession *succession, struct slice entry,
+                      size_t *place)
+{
+    coniks_received received;
+    uint32_t status = receive(next, entry, &received);
+    if (status == 0)
+        status = client_reserve_changes(next, 1);
+    if (status == 0)
+        status = coniks_core_succeed(&ended->core, succession, &received, &next->core, place);
+    return status ? status : client_own_texts(next, client_allocate_texts(next, 0));
+}
+
+uint32_t coniks_client_succeed(const coniks_client *client, const coniks_client_succession *given, coniks_client **next,
+                               size_t *place, coniks_client_refusal *why)
+{
+    const struct slice entry = client_slice_of(given->entry, given->entry_length);
+    struct succession succession;
+    coniks_why reason = {0};
+    uint32_t status = client_read_succession(client_slice_of(given->text, given->text_length), &succession);
+    *next = NULL;
+    client_clear(why, sizeof *why);
+    if (status == 0)
+        status = coniks_client_new(next, given->settings);
+    if (status)
+        return status;
+    succession.parts.signature = client_succession_verdict(client, &succession);
+    status = go_on(*next, client, &succession.parts, entry, place);
+    convict_alone(entry, status, &reason);
+    return hand_over(next, client_refused(*next, status, entry.bytes, &reason, why));
 }
 
 uint32_t coniks_client_feed(coniks_client *client, const uint8_t *entry, size_t entry_length, coniks_client_step *step,

@@ -69,6 +69,11 @@ enum coniks_client_status {
     CONIKS_CLIENT_E_STALE = 85,
     CONIKS_CLIENT_E_FUTURE = 86,
     CONIKS_CLIENT_E_VRF_PROOF = 87,
+    CONIKS_CLIENT_E_SUCCESSION_POLICY = 88,
+    CONIKS_CLIENT_E_SUCCESSION_SIGNATURE = 89,
+    CONIKS_CLIENT_E_NEXT_POLICY = 90,
+    CONIKS_CLIENT_E_CHAIN_DIFFERS = 91,
+    CONIKS_CLIENT_E_OTHER_START = 92,
     CONIKS_CLIENT_E_STATE_LENGTH = 96,
     CONIKS_CLIENT_E_STATE_VERSION = 97,
     CONIKS_CLIENT_E_STATE_DAMAGED = 98,
@@ -83,22 +88,23 @@ enum coniks_client_status {
     /* formats.toml: end */
 
     /* a call that the caller must not make, or that the machine can't do */
-    CONIKS_CLIENT_E_POLICY_FORM = 128,   /* the policy is no document, or there is neither document nor digest */
-    CONIKS_CLIENT_E_LEAST = 129,         /* no auditor is asked for */
-    CONIKS_CLIENT_E_NAME = 130,          /* a watched name has no byte, or more than 255 */
-    CONIKS_CLIENT_E_EXPECTED_KEY = 131,  /* an expected key has no byte, or 2^32 or more */
-    CONIKS_CLIENT_E_OTHER_WATCH = 132,   /* the client watches another name, another key, or from another epoch on */
-    CONIKS_CLIENT_E_NOT_WATCHING = 133,  /* the client watches no name */
-    CONIKS_CLIENT_E_CHANGE_OPEN = 134,   /* another change of the key is not over */
-    CONIKS_CLIENT_E_SAME_KEY = 135,      /* the new key is the one that is expected already */
-    CONIKS_CLIENT_E_NOT_LATER = 136,     /* the epoch by which the new key is expected is not after the latest one */
-    CONIKS_CLIENT_E_ROOM = 137,          /* the results need more room */
-    CONIKS_CLIENT_E_NO_AUDITOR = 138,    /* the trust document has no such auditor */
-    CONIKS_CLIENT_E_NOT_CONFIRMED = 139, /* no quorum of auditors confirms an epoch, or this one */
-    CONIKS_CLIENT_E_MANY_HEADS = 142,    /* there are more than 64 heads */
-    CONIKS_CLIENT_E_QUORUM = 144,        /* the auditors that may be faulty, times three, are not fewer than all */
-    CONIKS_CLIENT_E_MEMORY = 145,        /* an allocation failed */
-    CONIKS_CLIENT_E_SODIUM = 146         /* libsodium can't be initialized */
+    CONIKS_CLIENT_E_POLICY_FORM = 128,    /* the policy is no document, or there is neither document nor digest */
+    CONIKS_CLIENT_E_LEAST = 129,          /* no auditor is asked for */
+    CONIKS_CLIENT_E_NAME = 130,           /* a watched name has no byte, or more than 255 */
+    CONIKS_CLIENT_E_EXPECTED_KEY = 131,   /* an expected key has no byte, or 2^32 or more */
+    CONIKS_CLIENT_E_OTHER_WATCH = 132,    /* the client watches another name, another key, or from another epoch on */
+    CONIKS_CLIENT_E_NOT_WATCHING = 133,   /* the client watches no name */
+    CONIKS_CLIENT_E_CHANGE_OPEN = 134,    /* another change of the key is not over */
+    CONIKS_CLIENT_E_SAME_KEY = 135,       /* the new key is the one that is expected already */
+    CONIKS_CLIENT_E_NOT_LATER = 136,      /* the epoch by which the new key is expected is not after the latest one */
+    CONIKS_CLIENT_E_ROOM = 137,           /* the results need more room */
+    CONIKS_CLIENT_E_NO_AUDITOR = 138,     /* the trust document has no such auditor */
+    CONIKS_CLIENT_E_NOT_CONFIRMED = 139,  /* no quorum of auditors confirms an epoch, or this one */
+    CONIKS_CLIENT_E_MANY_HEADS = 142,     /* there are more than 64 heads */
+    CONIKS_CLIENT_E_QUORUM = 144,         /* the auditors that may be faulty, times three, are not fewer than all */
+    CONIKS_CLIENT_E_MEMORY = 145,         /* an allocation failed */
+    CONIKS_CLIENT_E_SODIUM = 146,         /* libsodium can't be initialized */
+    CONIKS_CLIENT_E_SUCCESSION_FORM = 147 /* the text is no succession */
 };
 
 /* What an epoch shows of the watched name. */
@@ -235,6 +241,15 @@ typedef struct coniks_client_shown {
     size_t count;
 } coniks_client_shown;
 
+/* What a client goes on with: a succession, the directory that it names, and the first entry of that directory's chain that counts. */
+typedef struct coniks_client_succession {
+    const uint8_t *text;
+    size_t text_length;
+    const coniks_client_settings *settings; /* of the next client */
+    const uint8_t *entry;
+    size_t entry_length;
+} coniks_client_succession;
+
 typedef struct coniks_client coniks_client;
 
 /* Writes the defaults: no keys, no policy, libsodium, malloc and free, time(2), two periods, 300 seconds. */
@@ -262,6 +277,16 @@ uint32_t coniks_client_resume(coniks_client **client, const coniks_client_settin
 CONIKS_NODISCARD CONIKS_NONNULL((1, 2, 3))
 uint32_t coniks_client_vouched(coniks_client **client, const coniks_client_settings *settings,
                                const coniks_client_vouching *vouching, coniks_client_refusal *why);
+
+/*
+ * Makes a client that goes on in the directory that a succession names, and watches the name of this one. Entries of this one after *place
+ * are void: keep one with the succession, and tell the user. This client stays as it is. Returns 0, or the first of
+ * CONIKS_CLIENT_E_SUCCESSION_FORM, the errors of coniks_client_new, 88 to 90, 83, 91, 48, 40, 80, 81, 92 and CONIKS_CLIENT_E_MEMORY; then *next is NULL.
+ * A client that has only the digest of its policy knows no successor key. `why` may be NULL.
+ */
+CONIKS_NODISCARD CONIKS_NONNULL((1, 2, 3, 4))
+uint32_t coniks_client_succeed(const coniks_client *client, const coniks_client_succession *given, coniks_client **next,
+                               size_t *place, coniks_client_refusal *why);
 
 /* Frees a client; NULL is none. */
 void coniks_client_free(coniks_client *client);

@@ -230,6 +230,11 @@ static const struct {
     {85, "Stale"},
     {86, "Future"},
     {87, "VrfProof"},
+    {88, "SuccessionPolicy"},
+    {89, "SuccessionSignature"},
+    {90, "NextPolicy"},
+    {91, "ChainDiffers"},
+    {92, "OtherStart"},
     {96, "StateLength"},
     {97, "StateVersion"},
     {98, "StateDamaged"},
@@ -262,7 +267,8 @@ static void print_refusal(uint32_t status, const coniks_client_refusal *why)
     uint32_t own_status = status < CONIKS_CLIENT_E_NO_REPLY ? status : why->status;
     uint8_t text[160];
     size_t i = 0;
-    if (status >= CONIKS_CLIENT_E_MEMORY || coniks_client_text(status, text, sizeof text) - 1 >= sizeof text - 1)
+    if (status == CONIKS_CLIENT_E_MEMORY || status == CONIKS_CLIENT_E_SODIUM ||
+        coniks_client_text(status, text, sizeof text) - 1 >= sizeof text - 1)
         fail("an error of the machine, or one without a text");
     if (status >= CONIKS_CLIENT_E_POLICY_FORM) {
         puts("misuse");
@@ -331,42 +337,99 @@ static void set_trust(struct answerer *it)
     puts("set");
 }
 
-static void begin(struct answerer *it)
+/* What the settings of a client point at. */
+struct published {
+    coniks_bytes32 signing_key, vrf_key;
+    struct bytes policy;
+};
+
+/* Takes the settings from the words of a request: limits, keys and policy, from a place on. */
+static coniks_client_settings settings_at(struct answerer *it, size_t place, struct published *published)
 {
     coniks_client_settings settings;
-    coniks_client_refusal why = NO_REASON;
-    coniks_bytes32 signing_key, vrf_key;
-    struct bytes policy = bytes_at(it, 6);
-    uint32_t status;
-    coniks_client_free(it->client);
-    it->client = NULL;
-    it->now = number(word(it, 1));
+    published->policy = bytes_at(it, place + 4);
     coniks_client_begin_settings(&settings);
     settings.memory.allocate = allocate;
     settings.memory.release = release;
     settings.memory.context = &it->blocks;
     settings.clock = clock_of;
     settings.clock_context = &it->now;
-    if (!is_nothing(it, 2))
-        settings.max_age = number(word(it, 2));
-    if (!is_nothing(it, 3))
-        settings.skew = number(word(it, 3));
-    if (!take32(bytes_at(it, 4), &signing_key) || (!is_nothing(it, 5) && !take32(bytes_at(it, 5), &vrf_key)))
+    if (!is_nothing(it, place))
+        settings.max_age = number(word(it, place));
+    if (!is_nothing(it, place + 1))
+        settings.skew = number(word(it, place + 1));
+    if (!take32(bytes_at(it, place + 2), &published->signing_key) ||
+        (!is_nothing(it, place + 3) && !take32(bytes_at(it, place + 3), &published->vrf_key)))
         fail("a key has 32 bytes");
-    settings.signing_key = &signing_key;
-    settings.vrf_key = is_nothing(it, 5) ? NULL : &vrf_key;
-    settings.policy = policy.at;
-    settings.policy_length = policy.length;
+    settings.signing_key = &published->signing_key;
+    settings.vrf_key = is_nothing(it, place + 3) ? NULL : &published->vrf_key;
+    settings.policy = published->policy.at;
+    settings.policy_length = published->policy.length;
     settings.trust = it->auditors ? &it->trust : NULL;
     settings.auditors = it->auditors;
     settings.faulty = it->faulty;
     it->auditors = 0;
+    return settings;
+}
+
+static void begin(struct answerer *it)
+{
+    coniks_client_settings settings;
+    coniks_client_refusal why = NO_REASON;
+    struct published published;
+    uint32_t status;
+    coniks_client_free(it->client);
+    it->client = NULL;
+    it->now = number(word(it, 1));
+    settings = settings_at(it, 2, &published);
     status = make(it, &settings, &why);
-    free(policy.at);
+    free(published.policy.at);
     if (status)
         print_refusal(status, &why);
     else
         puts("begun");
+}
+
+/* Prints the epochs of a client after a place. */
+static void print_void(const coniks_client *client, size_t place)
+{
+    coniks_body body;
+    printf("void");
+    for (place++; place < coniks_client_count(client); place++) {
+        if (coniks_entry_body(coniks_client_entry(client, place), CONIKS_ENTRY_BYTES, &body))
+            fail("an entry");
+        printf(" %llu", (unsigned long long)body.epoch);
+    }
+    putchar('\n');
+}
+
+/* Goes on in another directory, in which the later requests are answered. */
+static void succeed(struct answerer *it)
+{
+    struct published published;
+    const coniks_client_settings settings = settings_at(it, 1, &published);
+    struct bytes text = bytes_at(it, 6), entry = bytes_at(it, 7);
+    const coniks_client_succession given = {text.at, text.length, &settings, entry.at, entry.length};
+    struct trial trial = begin_trial(it);
+    coniks_client_refusal why = NO_REASON;
+    coniks_client *next;
+    uint32_t status;
+    size_t place;
+    do {
+        status = coniks_client_succeed(it->client, &given, &next, &place, &why);
+        if ((status == 0) != (next != NULL))
+            fail("an error with a client");
+    } while (is_tried_again(it, &trial, status));
+    free(text.at);
+    free(entry.at);
+    free(published.policy.at);
+    if (status) {
+        print_refusal(status, &why);
+        return;
+    }
+    print_void(it->client, place);
+    coniks_client_free(it->client);
+    it->client = next;
 }
 
 static void print_step(const coniks_client_step *step)
@@ -662,6 +725,7 @@ static const struct {
 } CALLS[] = {
     {"begin", begin},
     {"vouched", begin},
+    {"succeed", succeed},
     {"now", set_clock},
     {"trust", set_trust},
     {"feed", feed},

@@ -862,6 +862,8 @@ static void try_policies(void)
                                            {"epoch-period 3600", "epoch-period 03600"},
                                            {"evidence one-chain\n", ""},
                                            {"proofs-kept", "records any\nproofs-kept"},
+                                           {"proofs-kept", "successor-key " SIGNING_KEY "\nproofs-kept"},
+                                           {"proofs-kept", "successor-key none\nrecords vouched\nproofs-kept"},
                                            {"forever\n", "forever"},
                                            {"forever\n", "forever\n\n"},
                                            {"forever", "-1"}};
@@ -871,6 +873,8 @@ static void try_policies(void)
         CHECK(read_changed(wrong[i][0], wrong[i][1]) == CONIKS_CLIENT_E_POLICY_FORM);
     CHECK(read_changed("epoch-start 1767225600", "epoch-start 18446744073709551615") == 0);
     CHECK(read_changed("proofs-kept", "records vouched\nproofs-kept") == 0);
+    CHECK(read_changed("proofs-kept", "records vouched\nsuccessor-key none\nproofs-kept") == 0);
+    CHECK(read_changed("proofs-kept", "successor-key " VRF_KEY "\nproofs-kept") == 0);
     memset(origin, 'x', 256);
     CHECK(read_changed("keys.example.com/directory", origin) == CONIKS_CLIENT_E_POLICY_FORM);
     origin[255] = 0;
@@ -881,7 +885,7 @@ static void try_texts(void)
 {
     uint8_t text[160], cut[5];
     uint32_t status;
-    for (status = 64; status <= CONIKS_CLIENT_E_SODIUM; status++) {
+    for (status = 64; status <= CONIKS_CLIENT_E_SUCCESSION_FORM; status++) {
         size_t length = coniks_client_text(status, text, sizeof text);
         CHECK(length < sizeof text && strlen((const char *)text) == length);
         CHECK(coniks_client_text(status, cut, sizeof cut) == length && (length < 4 || memcmp(cut, text, 4) == 0) &&

@@ -17,8 +17,15 @@ struct slice {
 
 /* The keys of a directory. */
 struct keys {
-    coniks_bytes32 signing, vrf;
-    int has_vrf;
+    coniks_bytes32 signing, vrf, successor;
+    int has_vrf, has_successor;
+};
+
+/* What a succession says, and the lines before its signature. */
+struct succession {
+    coniks_succession parts; /* without the verdict on the signature */
+    struct slice lines;
+    uint8_t signature[CONIKS_SIGNATURE_BYTES];
 };
 
 /* The client owns all that its pointers point at. What those of its settings to keys, policy and trust point at is read as it is made. */
@@ -45,6 +52,9 @@ void client_hash_bytes(const uint8_t *bytes, size_t length, coniks_bytes32 *hash
 /* Takes the keys of the settings, and checks that they are those of the policy document; NULL is no document. */
 CONIKS_NODISCARD uint32_t client_take_keys(coniks_client *client, const struct keys *of_policy);
 
+/* Returns whether the successor key of a policy signed a succession. */
+CONIKS_NODISCARD int client_is_successor(const struct keys *keys, const struct succession *it);
+
 /* client_verdicts.c: all verdicts that the core is given are made here */
 
 /* Returns the verdict on the signature of an entry of 209 bytes, and 0 for bytes of another length. */
@@ -52,11 +62,17 @@ CONIKS_NODISCARD uint32_t client_signature_verdict(const coniks_client *client, 
 /* Returns the verdict on the VRF proof of a name, with the index. */
 CONIKS_NODISCARD coniks_verdicts client_index_verdict(const coniks_client *client, const coniks_client_proof *proof);
 
+/* Returns the verdict on the signature of a succession by the successor key of the client's policy. */
+CONIKS_NODISCARD uint32_t client_succession_verdict(const coniks_client *client, const struct succession *succession);
+
 /* client_policy.c */
 
 struct slice client_slice_of(const uint8_t *bytes, size_t length);
 /* Reads a policy document: its keys, digest, clock and promise. Returns 0, or CONIKS_CLIENT_E_POLICY_FORM. */
 CONIKS_NODISCARD uint32_t client_read_policy(struct slice document, struct keys *keys, coniks_rules *rules);
+
+/* Reads a succession. Returns 0, or CONIKS_CLIENT_E_SUCCESSION_FORM. */
+CONIKS_NODISCARD uint32_t client_read_succession(struct slice text, struct succession *succession);
 
 /* client_memory.c */
 

@@ -1,4 +1,4 @@
-/* The policy document, whose SHA-256 is the policy digest of each entry. docs/FORMATS.md defines its lines. */
+/* The policy document, whose SHA-256 is the policy digest of each entry, and the succession. docs/FORMATS.md defines their lines. */
 #include <string.h>
 
 #include "client_parts.h"
@@ -62,19 +62,25 @@ static int digit(uint8_t c)
     return c >= 'a' && c <= 'f' ? c - 'a' + 10 : -1;
 }
 
-static int take_key(struct reader *it, const char *name, coniks_bytes32 *key)
+/* Reads the bytes of a number of hexadecimal digits. */
+static int take_digits(struct slice value, uint8_t *bytes, size_t count)
 {
-    struct slice value;
     size_t i;
-    if (!take_value(it, name, &value) || value.length != 64)
+    if (value.length != 2 * count)
         return 0;
-    for (i = 0; i < 32; i++) {
+    for (i = 0; i < count; i++) {
         int high = digit(value.bytes[2 * i]), low = digit(value.bytes[2 * i + 1]);
         if (high < 0 || low < 0)
             return 0;
-        key->bytes[i] = (uint8_t)(high << 4 | low);
+        bytes[i] = (uint8_t)(high << 4 | low);
     }
     return 1;
+}
+
+static int take_key(struct reader *it, const char *name, coniks_bytes32 *key)
+{
+    struct slice value;
+    return take_value(it, name, &value) && take_digits(value, key->bytes, sizeof key->bytes);
 }
 
 /* The number of decimal digits without leading zeros, less than 2^64. */
@@ -119,6 +125,21 @@ static int take_records(struct reader *it)
     return !take_value(it, "records ", &value) || is_text(value, "vouched");
 }
 
+/* The line of the successor key may be absent. */
+static int take_successor(struct reader *it, struct keys *keys)
+{
+    struct slice value;
+    if (!take_value(it, "successor-key ", &value) || is_text(value, "none"))
+        return 1;
+    keys->has_successor = 1;
+    return take_digits(value, keys->successor.bytes, sizeof keys->successor.bytes);
+}
+
+static int is_signing_key(const struct keys *keys)
+{
+    return keys->has_successor && memcmp(&keys->successor, &keys->signing, sizeof keys->signing) == 0;
+}
+
 static int take_promise(struct reader *it, coniks_promise *promise)
 {
     struct slice value;
@@ -137,8 +158,41 @@ uint32_t client_read_policy(struct slice document, struct keys *keys, coniks_rul
     memset(rules, 0, sizeof *rules);
     if (!take_line(&it, "policy coniks-1") || !take_origin(&it) || !take_line(&it, "signature Ed25519") ||
         !take_key(&it, "signing-key ", &keys->signing) || !take_vrf(&it, keys) || !take_clock(&it, &rules->clock) ||
-        !take_line(&it, "evidence one-chain") || !take_records(&it) || !take_promise(&it, &rules->promise) || it.left)
+        !take_line(&it, "evidence one-chain") || !take_records(&it) || !take_successor(&it, keys) ||
+        !take_promise(&it, &rules->promise) || it.left || is_signing_key(keys))
         return CONIKS_CLIENT_E_POLICY_FORM;
     client_hash_bytes(document.bytes, document.length, &rules->policy);
+    return 0;
+}
+
+/* The number of an epoch, at least 1. */
+static int take_epoch(struct reader *it, const char *name, uint64_t *epoch)
+{
+    struct slice value;
+    return take_value(it, name, &value) && is_number(value, epoch) && *epoch > 0;
+}
+
+/* Takes the signature, which is over the lines before. */
+static int take_signature(struct reader *it, struct succession *to)
+{
+    struct slice value;
+    to->lines.length = (size_t)(it->at - to->lines.bytes);
+    return take_value(it, "signature ", &value) && take_digits(value, to->signature, sizeof to->signature);
+}
+
+uint32_t client_read_succession(struct slice text, struct succession *succession)
+{
+    coniks_succession *parts = &succession->parts;
+    struct reader it;
+    it.at = text.bytes;
+    it.left = text.length;
+    memset(succession, 0, sizeof *succession);
+    succession->lines = text;
+    if (!take_line(&it, "succession coniks-1") || !take_key(&it, "policy ", &parts->policy) ||
+        !take_epoch(&it, "last-epoch ", &parts->last_epoch) || !take_key(&it, "last-link ", &parts->last_link) ||
+        !take_key(&it, "next-policy ", &parts->next_policy) || !take_epoch(&it, "first-epoch ", &parts->first_epoch) ||
+        !take_key(&it, "first-link ", &parts->first_link) || !take_signature(&it, succession) || it.left ||
+        memcmp(&parts->policy, &parts->next_policy, sizeof parts->policy) == 0)
+        return CONIKS_CLIENT_E_SUCCESSION_FORM;
     return 0;
 }

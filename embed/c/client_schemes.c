@@ -20,6 +20,12 @@ static int is_same(const coniks_bytes32 *key, const coniks_bytes32 *other)
     return memcmp(key, other, sizeof *key) == 0;
 }
 
+int client_is_successor(const struct keys *keys, const struct succession *it)
+{
+    return keys->has_successor && client_is_point(&keys->successor) &&
+           client_is_signature(&keys->successor, it->lines, it->signature);
+}
+
 /* A scheme in place of a key is its caller's choice. */
 uint32_t client_take_keys(coniks_client *client, const struct keys *of_policy)
 {

@@ -32,6 +32,13 @@ static const struct {
     {CONIKS_CLIENT_E_STALE, "the latest epoch is too old by the policy's clock: feed a catch-up, or alarm"},
     {CONIKS_CLIENT_E_FUTURE, "the latest epoch has not begun by the policy's clock: see whether the clock is right, or alarm"},
     {CONIKS_CLIENT_E_VRF_PROOF, "the VRF proof is not one of this name: ask for the reply again"},
+    {CONIKS_CLIENT_E_SUCCESSION_POLICY, "the succession ends another policy: take the one of this directory"},
+    {CONIKS_CLIENT_E_SUCCESSION_SIGNATURE, "the policy's successor key did not sign the succession: "
+                                           "ask the directory's operator"},
+    {CONIKS_CLIENT_E_NEXT_POLICY, "the succession names another policy to go on: take the policy document that it names"},
+    {CONIKS_CLIENT_E_CHAIN_DIFFERS, "the chain has another entry at the succession's last epoch: "
+                                    "keep both, and ask auditors for their entry"},
+    {CONIKS_CLIENT_E_OTHER_START, "the succession names another first entry of the next chain: take the entry that it names"},
     {CONIKS_CLIENT_E_STATE_LENGTH, "a state has at least 110 bytes: "
                                    "restore the state that was stored last, or start anew with an auditor's head"},
     {CONIKS_CLIENT_E_STATE_VERSION, "the state has another version than 3: "
@@ -65,6 +72,7 @@ static const struct {
     {CONIKS_CLIENT_E_QUORUM, "too many auditors may be faulty: three times their number must be less than all"},
     {CONIKS_CLIENT_E_MEMORY, "out of memory"},
     {CONIKS_CLIENT_E_SODIUM, "libsodium can't be initialized"},
+    {CONIKS_CLIENT_E_SUCCESSION_FORM, "this is no succession of docs/FORMATS.md: take the bytes that its directory publishes"},
 };
 
 size_t coniks_client_text(uint32_t status, uint8_t *text, size_t room)

@@ -7,6 +7,11 @@ uint32_t client_signature_verdict(const coniks_client *client, const uint8_t *en
     return length == CONIKS_ENTRY_BYTES && scheme->verify(scheme->context, entry, entry + CONIKS_BODY_BYTES) == 1;
 }
 
+uint32_t client_succession_verdict(const coniks_client *client, const struct succession *succession)
+{
+    return client_is_successor(&client->keys, succession) == 1;
+}
+
 coniks_verdicts client_index_verdict(const coniks_client *client, const coniks_client_proof *proof)
 {
     const coniks_client_indices *scheme = &client->settings.indices;

@@ -17,10 +17,10 @@ enum {
     STATE = 110 + 218
 };
 
-static const char *const names[] = {"nothing",     "feed",        "reply_needs", "lookup",   "watch",         "expect",
-                                    "compare",     "evidence",    "quorum",      "mark",     "confirmed",     "relied",
-                                    "start",       "cover",       "report",      "history",  "history_needs", "state_size",
-                                    "state_write", "state_needs", "state_read",  "catch_up", "note",          "lost"};
+static const char *const names[] = {
+    "nothing",     "feed",        "reply_needs", "lookup",   "watch", "expect", "compare", "evidence",      "quorum",
+    "mark",        "confirmed",   "relied",      "start",    "cover", "report", "history", "history_needs", "state_size",
+    "state_write", "state_needs", "state_read",  "catch_up", "note",  "lost",   "succeed"};
 
 static uint8_t reply[REPLY], history[HISTORY], state[STATE];
 static coniks_siblings siblings;
@@ -31,6 +31,11 @@ static coniks_stored_entry stored[2];
 static coniks_change changes[2];
 static coniks_alarm alarms[2];
 static uint64_t marks[HEADS];
+
+/* A client that goes on, and its memory. */
+static coniks_core next;
+static coniks_stored_entry first[1];
+static coniks_change changed[1];
 
 /* Makes a client with one stored epoch, whose entry is still zero bytes, and no watched name. Its quorum is one auditor. */
 static void begin(void)
@@ -45,6 +50,9 @@ static void begin(void)
     core.alarms = (coniks_alarms){alarms, 2, 0};
     core.marks = marks;
     core.mark_count = HEADS;
+    memset(&next, 0, sizeof next);
+    next.stored = (coniks_stored){first, 1, 0};
+    next.changes = (coniks_changes){changed, 1, 0};
 }
 
 /* Makes one of the calls, or none. The copy before it takes the same stack each time. */
@@ -58,6 +66,7 @@ static void *call(void *which)
     coniks_found found;
     coniks_why why;
     coniks_head heads[HEADS] = {{0, 0, {{0}}}};
+    coniks_succession succession = {1, {{0}}, 1, {{0}}, {{0}}, 1, {{0}}};
     coniks_covered covered;
     coniks_report report;
     coniks_history all = {(const uint8_t *)"a", 1, history, HISTORY};
@@ -153,6 +162,14 @@ static void *call(void *which)
         break;
     case 23:
         status = coniks_core_lost(&core, 0, 0);
+        break;
+    case 24:
+        core.watch = wanted;
+        changes[0] = (coniks_change){0, 5, NULL, 0};
+        core.changes.count = 1;
+        (void)!coniks_link(reply + ENTRY, 209, &succession.last_link);
+        succession.first_link = succession.last_link;
+        status = coniks_core_succeed(&core, &succession, &received, &next, &place);
         break;
     default:
         break;

@@ -31,6 +31,10 @@ type Policy struct {
 	// RecordsVouched is whether the directory promises that each key is a record of its owner (docs/FORMATS.md, "Keys that their
 	// owners vouch for"). Two replies that show a change which the owner did not sign convict it then.
 	RecordsVouched bool
+	// SuccessorKey is the public key that signs a succession (Ed25519), which is kept offline, nil if there is none. With
+	// NoSuccessorKey the document says that there is none, else it says nothing.
+	SuccessorKey   *[32]byte
+	NoSuccessorKey bool
 }
 
 var (
@@ -44,6 +48,7 @@ vrf-key ([0-9a-f]{64}))
 epoch-period ([1-9][0-9]{0,19})
 )?evidence one-chain
 (records vouched
+)?(?:successor-key (none|[0-9a-f]{64})
 )?proofs-kept (?:forever|(0|[1-9][0-9]{0,19}))
 $`)
 	policyOrigin = regexp.MustCompile(`^[!-~]{1,255}$`)
@@ -68,7 +73,7 @@ func (p *Policy) UnmarshalText(text []byte) error {
 		hex.Decode(read.VRFKey[:], found[3])
 	}
 	var start, period, stored uint64
-	for at, number := range map[int]*uint64{4: &start, 5: &period, 7: &stored} {
+	for at, number := range map[int]*uint64{4: &start, 5: &period, 8: &stored} {
 		if digits := found[at]; digits != nil {
 			var err error
 			if *number, err = strconv.ParseUint(string(digits), 10, 64); err != nil {
@@ -77,11 +82,37 @@ func (p *Policy) UnmarshalText(text []byte) error {
 		}
 	}
 	read.EpochStart, read.EpochPeriod = start, period
-	if found[7] != nil {
+	if found[8] != nil {
 		read.ProofsKept = &stored
 	}
 	read.RecordsVouched = found[6] != nil
+	read.readSuccessor(string(found[7]))
+	if err := read.checkSuccessor(); err != nil {
+		return err
+	}
 	*p = read
+	return nil
+}
+
+// readSuccessor takes the value of the line of the successor key, of no byte without the line.
+func (p *Policy) readSuccessor(value string) {
+	p.NoSuccessorKey = value == "none"
+	if len(value) == 2*len(p.SigningKey) {
+		p.SuccessorKey = new([32]byte)
+		hex.Decode(p.SuccessorKey[:], []byte(value))
+	}
+}
+
+// checkSuccessor returns an error if no document can have this successor key.
+func (p *Policy) checkSuccessor() error {
+	switch {
+	case p.SuccessorKey == nil:
+		return nil
+	case p.NoSuccessorKey:
+		return errors.New("there is a successor key, and none: set SuccessorKey or NoSuccessorKey")
+	case *p.SuccessorKey == p.SigningKey:
+		return errors.New("the successor key is kept offline: it is another one than the signing key")
+	}
 	return nil
 }
 
@@ -93,6 +124,9 @@ func (p Policy) MarshalText() ([]byte, error) {
 	}
 	if p.EpochPeriod == 0 && p.EpochStart != 0 {
 		return nil, errors.New("a clock has a start and a period: set EpochPeriod, or neither")
+	}
+	if err := p.checkSuccessor(); err != nil {
+		return nil, err
 	}
 	var text bytes.Buffer
 	fmt.Fprintf(&text, "policy coniks-1\norigin %s\nsignature Ed25519\nsigning-key %x\n", p.Origin, p.SigningKey)
@@ -107,6 +141,12 @@ func (p Policy) MarshalText() ([]byte, error) {
 	text.WriteString("evidence one-chain\n")
 	if p.RecordsVouched {
 		text.WriteString("records vouched\n")
+	}
+	switch {
+	case p.SuccessorKey != nil:
+		fmt.Fprintf(&text, "successor-key %x\n", *p.SuccessorKey)
+	case p.NoSuccessorKey:
+		text.WriteString("successor-key none\n")
 	}
 	if p.ProofsKept == nil {
 		text.WriteString("proofs-kept forever\n")

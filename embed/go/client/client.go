@@ -75,6 +75,8 @@ type Client struct {
 	indices    IndexScheme
 	clock      clock
 	memory     *memory
+	// successor is the successor key of the policy, nil if there is none.
+	successor *[32]byte
 }
 
 // locked begins a call, and returns what ends it. Until then it refers to the client.
@@ -96,6 +98,10 @@ func New(settings Settings) (*Client, error) {
 	it := &Client{signatures: signatures, indices: indices, clock: time.Now, memory: newMemory(rules, auditors)}
 	if settings.Clock != nil {
 		it.clock = settings.Clock
+	}
+	if policy := settings.Policy; policy != nil && policy.SuccessorKey != nil {
+		key := *policy.SuccessorKey
+		it.successor = &key
 	}
 	return it, nil
 }

@@ -166,9 +166,9 @@ func TestCauses(t *testing.T) {
 		33 Version 34 VersionBack 35 FirstEpoch 36 NotLater 37 PreviousEpoch 38 PreviousLink 39 NonceChanged 40 Signature
 		48 EntryLength 64 NoReply 65 ReplyVersion 66 CutInEntry 67 CutInVrf 68 CatchUpLength 69 NoHistory 70 HistoryVersion
 		71 CutInStep 72 EpochOrder 73 UnknownEnd 74 SiblingMap 75 SiblingRepeated 76 EndRepeated 80 OtherPolicy 81 Malformed
-		82 Equivocation 83 UnknownEpoch 84 OtherEpoch 85 Stale 86 Future 87 VrfProof 96 StateLength 97 StateVersion
-		98 StateDamaged 99 StatePolicy 100 StateForm 101 StateChain 104 NotVouched 105 AuditorsDiffer 112 SigningKey 113 VrfKey
-		114 PolicyKeys`)
+		82 Equivocation 83 UnknownEpoch 84 OtherEpoch 85 Stale 86 Future 87 VrfProof 88 SuccessionPolicy 89 SuccessionSignature
+		90 NextPolicy 91 ChainDiffers 92 OtherStart 96 StateLength 97 StateVersion 98 StateDamaged
+		99 StatePolicy 100 StateForm 101 StateChain 104 NotVouched 105 AuditorsDiffer 112 SigningKey 113 VrfKey 114 PolicyKeys`)
 	known := map[Cause]string{}
 	for at := 0; at < len(names); at += 2 {
 		var number uint8

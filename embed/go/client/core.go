@@ -232,6 +232,15 @@ func (m *memory) starting(heads map[string]coniks.Head, least int) taking {
 	}
 }
 
+// succeed goes on after another client, whose name and keys are copied. It returns the place of that one's last epoch.
+func (m *memory) succeed(ended *memory, succession C.coniks_succession, received C.coniks_received) (status C.uint32_t, place int) {
+	reserve(&m.core.stored.items, &m.core.stored.room, m.core.stored.count, 1)
+	reserve(&m.core.changes.items, &m.core.changes.room, m.core.changes.count, 1)
+	var at C.size_t
+	status = m.owning(C.coniks_core_succeed(ended.core, &succession, &received, m.core, &at))
+	return status, int(at)
+}
+
 // entriesOf returns the entries of a catch-up, which are parts of it.
 func entriesOf(catchUp []byte) (entries [][]byte, status C.uint32_t) {
 	var count C.size_t

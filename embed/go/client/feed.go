@@ -141,6 +141,11 @@ func (c *Client) Evidence(otherEntry []byte) (*Evidence, error) {
 	if status != noEvidence {
 		return c.evidence(why, entry), refused(status)
 	}
+	return alone(entry)
+}
+
+// alone returns what an entry convicts the provider of by itself, nil if a chain can have it.
+func alone(entry []byte) (*Evidence, error) {
 	kind, err := coniks.Convicts(entry, entry)
 	if err != nil || kind == coniks.NoEvidence {
 		return nil, err

@@ -25,6 +25,18 @@ func (c *Client) entryVerdict(entry []byte) C.uint32_t {
 	return 0
 }
 
+// succession returns a succession with its verdict, which is that of the successor key of the client's policy.
+func (c *Client) succession(it coniks.Succession) C.coniks_succession {
+	var verdict C.uint32_t
+	if key := c.successor; key != nil && decodeKey(key[:]) != nil && isSigned(key[:], it.Lines(), it.Signature[:]) {
+		verdict = 1
+	}
+	return C.coniks_succession{
+		signature: verdict, policy: *bytes32(&it.Policy), last_epoch: C.uint64_t(it.Last.Epoch), last_link: *bytes32(&it.Last.Link),
+		next_policy: *bytes32(&it.NextPolicy), first_epoch: C.uint64_t(it.First.Epoch), first_link: *bytes32(&it.First.Link),
+	}
+}
+
 // replyVerdicts are those on the signature of a reply's entry, if it is needed, and on the VRF proof.
 func (c *Client) replyVerdicts(name string, reply []byte, needs C.coniks_needs) C.coniks_verdicts {
 	verdicts := c.indexVerdict(name, part(reply, needs.vrf_start, needs.vrf_length))

@@ -1,7 +1,8 @@
 //! Replies to the requests of embed/tests/client_sides.py, one on each line.
 
 use coniks::client::{
-    Alarm, Cause, Client, Comparison, Evidence, Found, Keys, Misuse, Policy, Refusal, Report, Settings, Step, Trust, Watched,
+    Alarm, Cause, Client, Comparison, Evidence, Found, Keys, Misuse, Policy, Refusal, Report, Settings, Step, Succession,
+    Trust, Watched,
 };
 use coniks::{EvidenceKind, Head};
 use std::collections::BTreeMap;
@@ -124,19 +125,36 @@ impl Session {
     fn parts(&mut self, words: &[&str]) -> Result<(Keys, Policy, Settings), Fault> {
         self.client = None;
         self.now = Arc::new(AtomicU64::new(number(words[0])));
+        self.published(&words[1..])
+    }
+
+    /// The same without the time. The trust document is taken.
+    fn published(&mut self, words: &[&str]) -> Result<(Keys, Policy, Settings), Fault> {
         let now = self.now.clone();
         let mut settings = Settings {
-            max_age: given(words[1], number).map(Duration::from_secs),
+            max_age: given(words[0], number).map(Duration::from_secs),
             clock: Box::new(move || Duration::from_secs(now.load(Ordering::Relaxed))),
             trust: self.trust.take(),
             ..Settings::default()
         };
-        if let Some(skew) = given(words[2], number) {
+        if let Some(skew) = given(words[1], number) {
             settings.skew = Duration::from_secs(skew);
         }
-        let policy = Policy::read(&bytes(words[5])).map_err(|_| Fault::Misused)?;
-        let keys = Keys::new(&bytes(words[3]), given(words[4], bytes).as_deref())?;
+        let policy = Policy::read(&bytes(words[4])).map_err(|_| Fault::Misused)?;
+        let keys = Keys::new(&bytes(words[2]), given(words[3], bytes).as_deref())?;
         Ok((keys, policy, settings))
+    }
+
+    /// Goes on in another directory, in which the later requests are answered.
+    fn succeed(&mut self, words: &[&str]) -> Result<String, Fault> {
+        let published = self.published(words);
+        let succession = Succession::read(&bytes(words[5])).map_err(|_| Fault::Misused)?;
+        let (keys, policy, settings) = published?;
+        let client = self.client.as_ref().expect("a client");
+        let succeeded = client.succeed(&succession, keys, policy, &bytes(words[6]), settings)?;
+        self.client = Some(succeeded.client);
+        let epoch = |it: &[u8; 209]| u64::from_be_bytes(it[1..9].try_into().expect("eight bytes")).to_string();
+        Ok(listed("void", succeeded.void.iter().map(epoch)))
     }
 
     fn begin(&mut self, words: &[&str]) -> Result<String, Fault> {
@@ -164,6 +182,7 @@ impl Session {
         match words[0] {
             "begin" => return self.begin(&words[1..]),
             "vouched" => return self.vouched(&words[1..]),
+            "succeed" => return self.succeed(&words[1..]),
             "now" => {
                 self.now.store(number(words[1]), Ordering::Relaxed);
                 return Ok("set".into());

@@ -281,6 +281,17 @@ impl Core {
         started
     }
 
+    /// Goes on after another client, whose name and keys are copied. Returns the place of that one's last epoch.
+    pub fn go_on(&mut self, ended: &Core, succession: &Succession, received: &Received<'_>) -> (u32, usize) {
+        self.stored.reserve(1);
+        self.changes.reserve(1);
+        let (status, place) = succeed(ended, succession, received, self);
+        if status == 0 {
+            self.own_texts(self.room_for_texts(0));
+        }
+        (status, place)
+    }
+
     /// Reads a state, with the verdicts on its signatures.
     pub fn read_state(&mut self, state: &[u8], needs: &StateNeeds, verdicts: &[u32]) -> u32 {
         self.stored.reserve(needs.stored);
@@ -429,6 +440,17 @@ pub struct StateNeeds {
     pub entry_step: usize,
 }
 
+#[repr(C)]
+pub struct Succession {
+    pub signature: u32,
+    pub policy: [u8; 32],
+    pub last_epoch: u64,
+    pub last_link: [u8; 32],
+    pub next_policy: [u8; 32],
+    pub first_epoch: u64,
+    pub first_link: [u8; 32],
+}
+
 /// Declares functions of the core, which are called `coniks_core_` and their names there. Each slice is passed as its pointer and its length.
 /// A function that returns a status with a value passes a pointer to the value too, as its last one.
 macro_rules! calls {
@@ -479,6 +501,8 @@ macro_rules! calls {
 calls! {
     fn feed(core: &mut Core, received: &Received<'_>) -> (u32, Why);
     fn start(core: &mut Core, heads: &[Head], received: &Received<'_>) -> (u32, Why);
+    // Afterwards the watch and the change of `next` point at what those of `core` do.
+    fn succeed(core: &Core, succession: &Succession, received: &Received<'_>, next: &mut Core) -> (u32, usize);
     fn catch_up(catch_up: &[u8]) -> (u32, usize);
     fn reply_needs(core: &Core, reply: &[u8]) -> (u32, Needs);
     fn lookup(core: &mut Core, asking: &Asking<'_>, verdicts: &Verdicts, found: &mut Found) -> (u32, Why);

@@ -3,8 +3,8 @@
 mod formats;
 
 use coniks::client::{
-    Alarm, Cause, Client, Comparison, Found, IndexScheme, Keys, Misuse, Policy, PolicyError, Report, Settings, SignatureScheme,
-    SigningKey, Step, Trust, VrfKey, Watched,
+    Alarm, Cause, Client, Comparison, Found, IndexScheme, Keys, Misuse, NoSuccession, Policy, PolicyError, Report, Settings,
+    SignatureScheme, SigningKey, Step, Succession, Trust, VrfKey, Watched,
 };
 use coniks::{link, Body, Error, EvidenceKind, Head};
 use formats::{
@@ -102,6 +102,34 @@ fn the_policy_that_promises_records() {
         assert_ne!(text.replace(from, to), text);
         assert_eq!(Policy::read(text.replace(from, to).as_bytes()), Err(PolicyError::Form), "{from:?}, {to:?}");
     }
+}
+
+#[test]
+fn the_succession_of_the_example() {
+    let [ending, next] = [formats::ENDING, formats::NEXT].map(|it| Policy::read(it.as_bytes()).expect("a policy"));
+    let key = bytes("ec172b93ad5e563bf4932c70e1245034c35467ef2efd4d64ebf819683467e2bf");
+    assert_eq!((ending.successor_key().map(|it| it.to_vec()), next.successor_key()), (Some(key), None));
+    let it = Succession::read(formats::SUCCESSION.as_bytes()).expect("a succession");
+    assert_eq!((it.policy, it.next_policy, it.text().as_str()), (ending.digest(), next.digest(), formats::SUCCESSION));
+    assert_eq!((it.last.epoch, it.first.epoch), (2, 2));
+    for (from, to) in [
+        ("coniks-1", "coniks-2"),
+        ("last-epoch 2", "last-epoch 0"),
+        ("first-epoch 2", "first-epoch 18446744073709551616"),
+        ("next-policy 2f", "next-policy 2F"),
+        ("\nsignature ", "\n\nsignature "),
+        ("first-link ", "first-link 00"),
+    ] {
+        assert_ne!(formats::SUCCESSION.replace(from, to), formats::SUCCESSION);
+        assert_eq!(Succession::read(formats::SUCCESSION.replace(from, to).as_bytes()), Err(NoSuccession), "{from:?}, {to:?}");
+    }
+    for size in 0..formats::SUCCESSION.len() {
+        assert_eq!(Succession::read(&formats::SUCCESSION.as_bytes()[..size]), Err(NoSuccession));
+    }
+    let keys = |it: &Policy| Keys::new(it.signing_key(), it.vrf_key().map(|it| &it[..])).expect("points");
+    let client = Client::new(keys(&ending), ending, Time::default().settings()).expect("a client");
+    let cause = client.succeed(&it, keys(&next), next, &[], Time::default().settings()).unwrap_err().cause;
+    assert_eq!(cause, Cause::UnknownEpoch);
 }
 
 /// What the example's reply shows, with the key that has one byte.
@@ -767,7 +795,7 @@ fn keys_that_are_not_those_of_the_policy() {
 
 #[test]
 fn causes_have_numbers_and_texts() {
-    assert_eq!(Cause::ALL.len(), 58);
+    assert_eq!(Cause::ALL.len(), 63);
     for cause in Cause::ALL {
         let text = cause.to_string();
         assert!(!text.is_empty() && !text.ends_with('.') && text.len() < 160, "{cause:?}");

@@ -99,6 +99,16 @@ pub enum Cause {
     Future = 86,
     /// The VRF proof is not one of this name.
     VrfProof = 87,
+    /// The succession ends another policy.
+    SuccessionPolicy = 88,
+    /// The signature of the succession is not valid, or the policy has no such key.
+    SuccessionSignature = 89,
+    /// The succession names another policy to go on.
+    NextPolicy = 90,
+    /// Another stored entry covers the last epoch.
+    ChainDiffers = 91,
+    /// The succession names another first entry of the next chain.
+    OtherStart = 92,
     /// The state has fewer than 110 bytes.
     StateLength = 96,
     /// The state's first byte is not 3.
@@ -174,6 +184,11 @@ impl Cause {
         Cause::Stale,
         Cause::Future,
         Cause::VrfProof,
+        Cause::SuccessionPolicy,
+        Cause::SuccessionSignature,
+        Cause::NextPolicy,
+        Cause::ChainDiffers,
+        Cause::OtherStart,
         Cause::StateLength,
         Cause::StateVersion,
         Cause::StateDamaged,
@@ -247,6 +262,11 @@ impl Cause {
             Cause::Stale => "the latest epoch is too old by the policy's clock: feed a catch-up, or alarm",
             Cause::Future => "the latest epoch has not begun by the policy's clock: see whether the clock is right, or alarm",
             Cause::VrfProof => "the VRF proof is not one of this name: ask for the reply again",
+            Cause::SuccessionPolicy => "the succession ends another policy: take the one of this directory",
+            Cause::SuccessionSignature => "the policy's successor key did not sign the succession: ask the directory's operator",
+            Cause::NextPolicy => "the succession names another policy to go on: take the policy document that it names",
+            Cause::ChainDiffers => "the chain has another entry at the succession's last epoch: keep both, and ask auditors for their entry",
+            Cause::OtherStart => "the succession names another first entry of the next chain: take the entry that it names",
             Cause::StateLength => "a state has at least 110 bytes: restore the state that was stored last, or start anew with an auditor's head",
             Cause::StateVersion => "the state has another version than 3: take the client that wrote it, or start anew with an auditor's head",
             Cause::StateDamaged => "the state was changed: restore the state that was stored last, or start anew with an auditor's head",

@@ -42,6 +42,7 @@ mod causes;
 mod ecvrf;
 mod policy;
 mod schemes;
+mod succession;
 mod verdicts;
 mod watched;
 
@@ -50,11 +51,12 @@ use causes::misuses;
 pub use causes::Cause;
 pub use policy::{Policy, PolicyError, PolicyOrDigest};
 pub use schemes::{Ecvrf, Ed25519, IndexScheme, Keys, SignatureScheme, SigningKey, VrfKey};
+pub use succession::{NoSuccession, Succeeded, Succession};
 pub use watched::{Alarm, Report, Trust, Watched};
 
 use crate::client_core::{self as core_calls, Array, Core, Promise, Received, Rules, Text, Why, NOWHERE};
 use crate::formats::NO_EVIDENCE;
-use crate::{convicts, link, Body, Error, EvidenceKind, Head, ENTRY_BYTES, MAX_NAME};
+use crate::{link, Body, Error, EvidenceKind, Head, ENTRY_BYTES, MAX_NAME};
 use core::fmt;
 use core::num::NonZeroUsize;
 use core::time::Duration;
@@ -153,6 +155,7 @@ pub struct Client {
     epochs: Option<EpochClock>,
     clock: Clock,
     core: Core,
+    successor: Option<[u8; 32]>,
 }
 
 impl fmt::Debug for Client {
@@ -170,12 +173,12 @@ impl Client {
     ///
     /// [`Cause::PolicyKeys`] if a key is not that of the policy document.
     pub fn new(keys: Keys, policy: impl Into<PolicyOrDigest>, settings: Settings) -> Result<Self, Refusal> {
-        let (policy, epochs, proofs_kept) = match policy.into() {
+        let (policy, epochs, proofs_kept, successor) = match policy.into() {
             PolicyOrDigest::Policy(it) => {
                 keys.check(&it)?;
-                (it.digest(), it.clock(), it.proofs_kept())
+                (it.digest(), it.clock(), it.proofs_kept(), it.successor_key().copied())
             }
-            PolicyOrDigest::Digest(it) => (it, None, None),
+            PolicyOrDigest::Digest(it) => (it, None, None, None),
         };
         let Settings { max_age, skew, clock, trust } = settings;
         let (start, period) = epochs.map_or((0, 0), |it| (it.start, it.period.get()));
@@ -188,7 +191,7 @@ impl Client {
             promise: Promise { is_limited: proofs_kept.is_some().into(), seconds: proofs_kept.unwrap_or(0) },
             quorum,
         };
-        Ok(Self { keys, epochs, clock, core: Core::new(rules, auditors) })
+        Ok(Self { keys, epochs, clock, core: Core::new(rules, auditors), successor })
     }
 
     /// Returns a client that goes on from the state of another one. Its marks are those of the state if that has the same trust document
@@ -319,8 +322,7 @@ impl Client {
         if status != NO_EVIDENCE {
             return good((status, self.evidence_of(&why, other_entry)));
         }
-        let (other, kind) = (other_entry.try_into().ok(), convicts(other_entry, other_entry)?);
-        Ok(other.zip(kind).map(|(other, kind)| Evidence { mine: other, other, kind }))
+        succession::alone(other_entry)
     }
 }
 

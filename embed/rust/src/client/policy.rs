@@ -61,6 +61,7 @@ pub struct Policy {
     clock: Option<EpochClock>,
     proofs_kept: Option<u64>,
     records_vouched: bool,
+    successor_key: Option<[u8; 32]>,
 }
 
 impl Policy {
@@ -128,6 +129,12 @@ impl Policy {
         self.records_vouched
     }
 
+    /// Returns the public key that signs a succession (Ed25519), which is kept offline, None if the directory has none.
+    #[must_use]
+    pub fn successor_key(&self) -> Option<&[u8; 32]> {
+        self.successor_key.as_ref()
+    }
+
     /// Returns the number of the epoch at a time in Unix seconds.
     ///
     /// # Errors
@@ -166,27 +173,38 @@ impl From<[u8; 32]> for PolicyOrDigest {
 }
 
 /// The lines of a document that are not yet read.
-struct Lines<'a> {
+pub(super) struct Lines<'a> {
     rest: &'a str,
 }
 
 impl<'a> Lines<'a> {
+    pub(super) fn of(text: &'a str) -> Self {
+        Self { rest: text }
+    }
+
+    /// Returns the lines that are not yet read.
+    pub(super) fn rest(&self) -> &'a str {
+        self.rest
+    }
+
     fn read(document: &[u8]) -> Option<Policy> {
         let document = core::str::from_utf8(document).ok()?;
-        let mut it = Lines { rest: document };
+        let mut it = Lines::of(document);
         it.line("policy coniks-1")?;
         let origin = it.value("origin ").filter(|it| is_origin(it))?.to_string();
         it.line("signature Ed25519")?;
-        let signing_key = key(it.value("signing-key ")?)?;
+        let signing_key = digits(it.value("signing-key ")?)?;
         let vrf_key = it.vrf_key()?;
         let clock = it.clock()?;
         it.line("evidence one-chain")?;
         let records_vouched = it.records_vouched()?;
+        let successor_key = it.successor_key()?;
         let proofs_kept = match it.value("proofs-kept ")? {
             "forever" => None,
             other => Some(number(other)?),
         };
-        it.rest.is_empty().then(|| Policy {
+        let is_whole = it.rest.is_empty() && successor_key != Some(signing_key);
+        is_whole.then(|| Policy {
             document: document.to_string(),
             origin,
             signing_key,
@@ -194,25 +212,26 @@ impl<'a> Lines<'a> {
             clock,
             proofs_kept,
             records_vouched,
+            successor_key,
         })
     }
 
     /// Takes the value of the line with a name and a space.
-    fn value(&mut self, name: &str) -> Option<&'a str> {
+    pub(super) fn value(&mut self, name: &str) -> Option<&'a str> {
         let (line, rest) = self.rest.split_once('\n')?;
         let value = line.strip_prefix(name)?;
         self.rest = rest;
         Some(value)
     }
 
-    fn line(&mut self, whole: &str) -> Option<()> {
+    pub(super) fn line(&mut self, whole: &str) -> Option<()> {
         self.value(whole)?.is_empty().then_some(())
     }
 
     fn vrf_key(&mut self) -> Option<Option<[u8; 32]>> {
         match self.value("vrf ")? {
             "none" => Some(None),
-            "ECVRF-EDWARDS25519-SHA512-TAI" => Some(Some(key(self.value("vrf-key ")?)?)),
+            "ECVRF-EDWARDS25519-SHA512-TAI" => Some(Some(digits(self.value("vrf-key ")?)?)),
             _ => None,
         }
     }
@@ -232,22 +251,29 @@ impl<'a> Lines<'a> {
             Some(value) => (value == "vouched").then_some(true),
         }
     }
+
+    fn successor_key(&mut self) -> Option<Option<[u8; 32]>> {
+        match self.value("successor-key ") {
+            None | Some("none") => Some(None),
+            Some(value) => Some(Some(digits(value)?)),
+        }
+    }
 }
 
 fn is_origin(text: &str) -> bool {
     (1..=255).contains(&text.len()) && text.bytes().all(|it| it.is_ascii_graphic())
 }
 
-/// Returns the 32 bytes of 64 digits in lower case.
-fn key(digits: &str) -> Option<[u8; 32]> {
-    let mut key = [0; 32];
-    if digits.len() != 64 {
+/// Returns the bytes of hexadecimal digits in lower case, two for each.
+pub(super) fn digits<const N: usize>(text: &str) -> Option<[u8; N]> {
+    let mut bytes = [0; N];
+    if text.len() != 2 * N {
         return None;
     }
-    for (byte, pair) in key.iter_mut().zip(digits.as_bytes().chunks_exact(2)) {
+    for (byte, pair) in bytes.iter_mut().zip(text.as_bytes().chunks_exact(2)) {
         *byte = pair.iter().try_fold(0, |value, it| Some(value << 4 | digit(*it)?))?;
     }
-    Some(key)
+    Some(bytes)
 }
 
 fn digit(character: u8) -> Option<u8> {
@@ -259,7 +285,7 @@ fn digit(character: u8) -> Option<u8> {
 }
 
 /// Returns the number of decimal digits without leading zeros.
-fn number(digits: &str) -> Option<u64> {
+pub(super) fn number(digits: &str) -> Option<u64> {
     let is_plain = digits.bytes().all(|it| it.is_ascii_digit()) && (digits == "0" || !digits.starts_with('0'));
     if is_plain {
         digits.parse().ok()

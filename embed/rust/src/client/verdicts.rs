@@ -4,7 +4,7 @@
 
 use super::schemes::Keys;
 use crate::client_core::{Needs, StateNeeds, Verdicts};
-use crate::{BODY_BYTES, ENTRY_BYTES};
+use crate::{sodium, BODY_BYTES, ENTRY_BYTES};
 use std::vec::Vec;
 
 /// Returns the verdict on an entry's signature. Bytes of another length have none.
@@ -12,6 +12,12 @@ pub(super) fn of_entry(keys: &Keys, entry: &[u8]) -> u32 {
     let parts = <&[u8; ENTRY_BYTES]>::try_from(entry).ok().and_then(|it| it.split_first_chunk::<BODY_BYTES>());
     let is_signed = |(body, rest): (_, &[u8])| rest.try_into().is_ok_and(|signature| keys.is_signed(body, signature));
     parts.is_some_and(is_signed).into()
+}
+
+/// Returns the verdict on the signature of a succession by the successor key of a policy, if it has one.
+pub(super) fn of_succession(key: Option<&[u8; 32]>, lines: &[u8], signature: &[u8; 64]) -> u32 {
+    let key = key.filter(|it| sodium::is_point(it));
+    key.is_some_and(|it| sodium::is_signed(it, lines, signature)).into()
 }
 
 /// Returns the verdict on the signature of each entry of a state.

@@ -18,6 +18,43 @@ epoch-period 3600\n\
 evidence one-chain\n\
 proofs-kept forever\n\
 ";
+/// The policy that ends, the one that goes on, and the succession.
+pub const ENDING: &str = "\
+policy coniks-1\n\
+origin keys.example.com/directory\n\
+signature Ed25519\n\
+signing-key d75a980182b10ab7d54bfed3c964073a0ee172f3daa62325af021a68f707511a\n\
+vrf ECVRF-EDWARDS25519-SHA512-TAI\n\
+vrf-key 3d4017c3e843895a92b70aa74d1b7ebc9c982ccf2ec4968cc0cd55f12af4660c\n\
+epoch-start 1767225600\n\
+epoch-period 3600\n\
+evidence one-chain\n\
+successor-key ec172b93ad5e563bf4932c70e1245034c35467ef2efd4d64ebf819683467e2bf\n\
+proofs-kept forever\n\
+";
+pub const NEXT: &str = "\
+policy coniks-1\n\
+origin keys.example.net/directory\n\
+signature Ed25519\n\
+signing-key fc51cd8e6218a1a38da47ed00230f0580816ed13ba3303ac5deb911548908025\n\
+vrf ECVRF-EDWARDS25519-SHA512-TAI\n\
+vrf-key 3d4017c3e843895a92b70aa74d1b7ebc9c982ccf2ec4968cc0cd55f12af4660c\n\
+epoch-start 1767225600\n\
+epoch-period 3600\n\
+evidence one-chain\n\
+successor-key none\n\
+proofs-kept forever\n\
+";
+pub const SUCCESSION: &str = "\
+succession coniks-1\n\
+policy 10e0c3b4619775e022176f133a386f1e8394d83967c5d5317f8de39bebb7ea2e\n\
+last-epoch 2\n\
+last-link de8770ef71bc1006430838a8e133984a82f5489cf3355c521262c3a8b8d28dbf\n\
+next-policy 2f22eac2f440501cf52db47975a756ef23e382500330f709f5fa82face5862c4\n\
+first-epoch 2\n\
+first-link a1e753f328da3935ac3ffc805ae6170cf43779a8a789f5521f21ba932d129bc1\n\
+signature 008f4125f6fff80db6f4b2c018c21a53e8aa4893733b36d8239405cddbce4567ab417b73bac385fc7666fd26a4f827acd9e22d50d3295eb53c6c9f7a8798c408\n\
+";
 pub const DIGEST: &str = "9b7c1ee453e0628965915c3a88e82924b3e90fe53ba30531b2b3ff12be6f7fef";
 pub const SIGNING_KEY: &str = "d75a980182b10ab7d54bfed3c964073a0ee172f3daa62325af021a68f707511a";
 pub const VRF_KEY: &str = "3d4017c3e843895a92b70aa74d1b7ebc9c982ccf2ec4968cc0cd55f12af4660c";

@@ -68,13 +68,45 @@ func headOf(epoch, link string) (head coniks.Head, err error) {
 
 // settings reads the first six words of `begin` and `vouched`, and sets the clock.
 func (p *program) settings(words []string) (client.Settings, error) {
+	p.client, p.now = nil, time.Unix(int64(number(words[0])), 0)
+	return p.published(words[1:])
+}
+
+// published reads limits, keys and policy, and takes the trust document.
+func (p *program) published(words []string) (client.Settings, error) {
 	trust := p.trust
-	p.client, p.now, p.trust = nil, time.Unix(int64(number(words[0])), 0), nil
-	policy, err := coniks.ReadPolicy(data(words[5]))
+	p.trust = nil
+	policy, err := coniks.ReadPolicy(data(words[4]))
 	return client.Settings{
-		MaxAge: seconds(words[1]), Skew: seconds(words[2]), SigningKey: data(words[3]), VRFKey: data(words[4]), Policy: &policy,
+		MaxAge: seconds(words[0]), Skew: seconds(words[1]), SigningKey: data(words[2]), VRFKey: data(words[3]), Policy: &policy,
 		Clock: func() time.Time { return p.now }, Trust: trust,
 	}, err
+}
+
+// succeed goes on in another directory, in which the later requests are answered.
+func (p *program) succeed(words []string) (string, error) {
+	settings, err := p.published(words)
+	if err != nil {
+		return "", err
+	}
+	succession, err := coniks.ReadSuccession(data(words[5]))
+	if err != nil {
+		return "", err
+	}
+	succeeded, err := p.client.Succeed(succession, settings, data(words[6]))
+	if err != nil {
+		return "", err
+	}
+	var void []uint64
+	for _, entry := range succeeded.Void {
+		body, err := coniks.BodyOf(entry)
+		if err != nil {
+			return "", err
+		}
+		void = append(void, body.Epoch)
+	}
+	p.client = succeeded.Client
+	return epochWords("void", void), nil
 }
 
 func (p *program) begin(words []string) (string, error) {
@@ -274,6 +306,8 @@ func (p *program) answer(word string, words []string) (string, error) {
 		return p.begin(words)
 	case "vouched":
 		return p.vouched(words)
+	case "succeed":
+		return p.succeed(words)
 	case "now":
 		p.now = time.Unix(int64(number(words[0])), 0)
 		return "set", nil

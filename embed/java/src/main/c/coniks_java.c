@@ -11,7 +11,7 @@
 /* In the order of Native.Call. */
 enum { MAKE, DISPOSE, TEXT, CATCH_UP, FEED, LOOKUP, HISTORY, LATEST, COUNT, ENTRY, COMPARE, COVER, MARK, CONFIRMED };
 enum { RELIED = CONFIRMED + 1, DROP, WATCH, EXPECT, MISSING, LOST, ALARMS, NOTE, REPORT, EVIDENCE, STATE };
-enum { NUMBERS = 26, TEXT_BYTES = 161 };
+enum { NUMBERS = 29, TEXT_BYTES = 161 };
 
 /* Java has the sizes of structs, as pointers of 64 bits give them. */
 typedef char has_sizes_of_java[sizeof(coniks_client_found) == 56 && sizeof(coniks_covered) == 40 ? 1 : -1];
@@ -108,7 +108,18 @@ static void read_settings(const struct call *it, struct bound *bound, coniks_cli
     settings->clock_context = settings->signatures.context = settings->indices.context = bound;
 }
 
-/* Makes a client from a state, from an entry that auditors have, or from neither. */
+/* Makes a client that goes on after another one, and writes the place of the last epoch there. */
+static uint32_t succeed(const struct call *it, const coniks_client_settings *settings, coniks_client **next)
+{
+    const struct bound *ended = (const struct bound *)(uintptr_t)it->n[26];
+    const coniks_client_succession given = {at(it, 24), it->n[25], settings, at(it, 19), it->n[20]};
+    size_t place = 0;
+    const uint32_t status = coniks_client_succeed(ended->client, &given, next, &place, at(it, 28));
+    memcpy((struct bound **)at(it, 27) + 1, &place, sizeof place);
+    return status;
+}
+
+/* Makes a client from a state, from an entry that auditors have, from a succession, or from none of them. */
 static uint32_t make(const struct call *it)
 {
     const coniks_client_vouching vouching = {at(it, 19), it->n[20], at(it, 21), it->n[22] / sizeof(coniks_client_head),
@@ -122,11 +133,13 @@ static uint32_t make(const struct call *it)
     read_settings(it, bound, &settings);
     if (it->n[17])
         status = coniks_client_resume(&bound->client, &settings, at(it, 17), it->n[18]);
+    else if (it->n[24])
+        status = succeed(it, &settings, &bound->client);
     else if (it->n[19])
-        status = coniks_client_vouched(&bound->client, &settings, &vouching, at(it, 25));
+        status = coniks_client_vouched(&bound->client, &settings, &vouching, at(it, 28));
     else
         status = coniks_client_new(&bound->client, &settings);
-    memcpy(at(it, 24), &bound, sizeof bound);
+    memcpy(at(it, 27), &bound, sizeof bound);
     if (status)
         free(bound);
     return status;

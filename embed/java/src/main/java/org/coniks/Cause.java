@@ -97,6 +97,16 @@ public enum Cause {
     FUTURE(86),
     /** The VRF proof is not one of this name. */
     VRF_PROOF(87),
+    /** The succession ends another policy. */
+    SUCCESSION_POLICY(88),
+    /** The signature of the succession is not valid, or the policy has no such key. */
+    SUCCESSION_SIGNATURE(89),
+    /** The succession names another policy to go on. */
+    NEXT_POLICY(90),
+    /** Another stored entry covers the last epoch. */
+    CHAIN_DIFFERS(91),
+    /** The succession names another first entry of the next chain. */
+    OTHER_START(92),
     /** The state has fewer than 110 bytes. */
     STATE_LENGTH(96),
     /** The state's first byte is not 3. */

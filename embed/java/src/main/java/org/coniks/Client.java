@@ -49,11 +49,13 @@ public final class Client implements AutoCloseable {
     private final Native inC;
     private final Cleaner.Cleanable cleanable;
 
-    private Client(Settings it, byte[] state, byte[] entry, byte[] heads, int least) throws Refusal {
+    /** Makes a client of a state, of an entry with the heads that vouch for it, or of an entry with a succession. */
+    private Client(Settings it, Native ended, byte[] state, byte[] entry, byte[] heads, int least, byte[] text) throws Refusal {
         clock = it.clock;
         verdicts = it.verdicts();
-        inC = new Native(clock, verdicts, it.document, it.digest, it.signingKey, it.vrfKey, it.trust, it.maxAge, it.skew, it.auditors,
-                it.faulty, it.signatures == null ? 0 : 1, it.indices == null ? 0 : 1, state, entry, heads, least);
+        Object[] given = {it.document, it.digest, it.signingKey, it.vrfKey, it.trust, it.maxAge, it.skew, it.auditors, it.faulty,
+            it.signatures == null ? 0 : 1, it.indices == null ? 0 : 1, state, entry, heads, least, text};
+        inC = ended == null ? new Native(0, clock, verdicts, given) : ended.next(clock, verdicts, given);
         cleanable = CLEANER.register(this, inC);
     }
 
@@ -64,7 +66,7 @@ public final class Client implements AutoCloseable {
      * @return the client
      * @throws Refusal if a key is no point of prime order, or not that of the policy
      */
-    public static Client create(Settings settings) throws Refusal { return new Client(settings, null, null, null, 0); }
+    public static Client create(Settings settings) throws Refusal { return new Client(settings, null, null, null, null, 0, null); }
 
     /**
      * Returns a client that goes on from the state of another one. Its marks are those of the state if that is of the same trust document
@@ -76,7 +78,7 @@ public final class Client implements AutoCloseable {
      * @throws Refusal as {@link #create} does, or if this is no state of this directory
      */
     public static Client resume(Settings settings, byte[] state) throws Refusal {
-        return new Client(settings, state.clone(), null, null, 0);
+        return new Client(settings, null, state.clone(), null, null, 0, null);
     }
 
     /**
@@ -93,7 +95,30 @@ public final class Client implements AutoCloseable {
     public static Client vouched(Settings settings, byte[] entry, Map<String, Head> heads, int least) throws Refusal {
         ByteBuffer rows = ByteBuffer.allocate(Native.HEAD * heads.size());
         heads.values().forEach(it -> rows.put(it.row()));
-        return new Client(settings, null, entry.clone(), rows.array(), Math.max(0, least));
+        return new Client(settings, null, null, entry.clone(), rows.array(), Math.max(0, least), null);
+    }
+
+    /**
+     * Returns a client of the directory that a succession of this one's policy names, which watches the same name. This client stays as it
+     * is: if an entry is void, keep one with the succession, and tell the user. A client that has only the digest of its policy knows no
+     * successor key.
+     *
+     * @param succession the succession
+     * @param settings what the next directory publishes
+     * @param entry the first entry of the next chain that counts
+     * @return the client, and the entries of this one that are void
+     * @throws Refusal as {@link #create} does, or with the first cause of docs/FORMATS.md, "A succession"
+     */
+    public Succeeded succeed(Succession succession, Settings settings, byte[] entry) throws Refusal {
+        synchronized (inC) {
+            try {
+                Client next = new Client(settings, inC, null, entry.clone(), null, 0, succession.text().array());
+                List<Bytes> entries = entries();
+                return new Succeeded(next, entries.subList(next.inC.place() + 1, entries.size()));
+            } finally {
+                Reference.reachabilityFence(this);
+            }
+        }
     }
 
     /** Makes a call. The client is not freed before it ends. */

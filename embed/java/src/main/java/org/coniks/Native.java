@@ -33,9 +33,27 @@ final class Native implements Runnable {
     private long client;
     private boolean isBusy;
 
-    Native(LongSupplier clock, Verdicts verdicts, Object... given) throws Refusal {
-        client = checked(call(Call.MAKE, time(clock), verdicts, Long.BYTES, given)).getLong();
+    /** The place of the last epoch in the client before this one, if there was one. */
+    private final int place;
+
+    Native(long ended, LongSupplier clock, Verdicts verdicts, Object... given) throws Refusal {
+        Object[] all = Stream.concat(Stream.of(given), Stream.of(ended)).toArray();
+        ByteBuffer made = checked(call(Call.MAKE, time(clock), verdicts, 2 * Long.BYTES, all));
+        client = made.getLong();
+        place = (int) made.getLong();
     }
+
+    /** Makes a client that goes on after this one. */
+    synchronized Native next(LongSupplier clock, Verdicts verdicts, Object... given) throws Refusal {
+        begin();
+        try {
+            return new Native(client, clock, verdicts, given);
+        } finally {
+            isBusy = false;
+        }
+    }
+
+    int place() { return place; }
 
     /** Loads the library that is beside the classes, for this processor, or else one on java.library.path. */
     private static void load(String name) {
@@ -93,10 +111,14 @@ final class Native implements Runnable {
     /** Throws an exception within a call. */
     void checkIdle() { if (isBusy) throw new IllegalStateException("a scheme or a clock must not call its client"); }
 
-    synchronized Result call(Call what, LongSupplier clock, Verdicts verdicts, int room, Object... given) {
+    private void begin() {
         checkIdle();
         if (client == 0) throw new IllegalStateException("the client is closed");
         isBusy = true;
+    }
+
+    synchronized Result call(Call what, LongSupplier clock, Verdicts verdicts, int room, Object... given) {
+        begin();
         try {
             return call(what, time(clock), verdicts, room, given);
         } finally {

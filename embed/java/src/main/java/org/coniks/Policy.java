@@ -15,7 +15,8 @@ public record Policy(Bytes document) {
     private static final String NUMBER = "(0|[1-9][0-9]{0,19})";
     private static final Pattern LINES = Pattern.compile("policy coniks-1\norigin ([!-~]{1,255})\nsignature Ed25519\n"
             + "signing-key ([0-9a-f]{64})\nvrf (?:none|ECVRF-EDWARDS25519-SHA512-TAI\nvrf-key ([0-9a-f]{64}))\n(?:epoch-start " + NUMBER
-            + "\nepoch-period (?!0)" + NUMBER + "\n)?evidence one-chain\n(records vouched\n)?proofs-kept (?:forever|" + NUMBER + ")\n");
+            + "\nepoch-period (?!0)" + NUMBER + "\n)?evidence one-chain\n(records vouched\n)?"
+            + "(?:successor-key (?!\\2)(none|[0-9a-f]{64})\n)?proofs-kept (?:forever|" + NUMBER + ")\n");
 
     /**
      * Checks the lines of the document.
@@ -24,7 +25,7 @@ public record Policy(Bytes document) {
      * @throws IllegalArgumentException if they are not those of docs/FORMATS.md
      */
     public Policy {
-        for (int group : new int[] {4, 5, 7}) number(document, group);
+        for (int group : new int[] {4, 5, 8}) number(document, group);
     }
 
     /**
@@ -63,6 +64,9 @@ public record Policy(Bytes document) {
     /** {@return whether each key is a record that its owner vouches for} */
     public boolean isVouched() { return value(document, 6).isPresent(); }
 
+    /** {@return the public key that signs a succession, which is kept offline, 32 bytes, or nothing if the directory has none} */
+    public Optional<Bytes> successorKey() { return value(document, 7).filter(it -> !it.equals("none")).map(Bytes::ofHex); }
+
     /** {@return for how many seconds proofs of an epoch are promised after the next one begins, or nothing if for ever} */
-    public OptionalLong proofsKept() { return number(document, 7); }
+    public OptionalLong proofsKept() { return number(document, 8); }
 }

@@ -63,13 +63,28 @@ public final class Answers {
     private Settings settings(String[] words) {
         now = Long.parseUnsignedLong(words[1]);
         client = null;
-        Settings settings = Settings.of(Policy.read(bytes(words[6]))).signingKey(bytes(words[4])).clock(() -> now);
-        settings.vrfKey(given(words[5], Answers::bytes));
-        number(words[2]).ifPresent(it -> settings.maxAge(Duration.ofSeconds(it)));
-        number(words[3]).ifPresent(it -> settings.skew(Duration.ofSeconds(it)));
-        if (trust != null) settings.trust(trust);
+        return published(words, 2);
+    }
+
+    /** The settings of words from a place on: limits, keys and policy. The trust document is taken. */
+    private Settings published(String[] words, int place) {
+        Trust named = trust;
         trust = null;
+        Settings settings = Settings.of(Policy.read(bytes(words[place + 4]))).signingKey(bytes(words[place + 2])).clock(() -> now);
+        settings.vrfKey(given(words[place + 3], Answers::bytes));
+        number(words[place]).ifPresent(it -> settings.maxAge(Duration.ofSeconds(it)));
+        number(words[place + 1]).ifPresent(it -> settings.skew(Duration.ofSeconds(it)));
+        if (named != null) settings.trust(named);
         return settings;
+    }
+
+    /** Goes on in another directory, in which the later requests are answered. */
+    private String succeed(String[] words) throws Refusal {
+        Settings settings = published(words, 1);
+        Succeeded succeeded = client.succeed(Succession.read(bytes(words[6])), settings, bytes(words[7]));
+        client.close();
+        client = succeeded.client();
+        return listed("void", succeeded.voided().stream().map(it -> Long.toUnsignedString(epoch(it))));
     }
 
     private String begin(String[] words) throws Refusal {
@@ -143,6 +158,7 @@ public final class Answers {
         return switch (words[0]) {
             case "begin" -> begin(words);
             case "vouched" -> vouched(words);
+            case "succeed" -> succeed(words);
             case "now", "trust" -> set(words);
             case "feed" -> fed(client.feed(Stream.of(words).skip(1).map(Answers::bytes).toList()));
             case "catchup" -> fed(client.feedCatchUp(bytes(words[1])));
