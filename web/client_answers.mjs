@@ -3,7 +3,7 @@
 import { readFileSync } from "node:fs";
 import { createInterface } from "node:readline";
 
-import { Refusal, load, readPolicy } from "./out/coniks.js";
+import { Refusal, load, readPolicy, readSuccession } from "./out/coniks.js";
 
 const library = await load(readFileSync(new URL("./out/coniks.wasm", import.meta.url)));
 const data = (word) => (word === "-" ? null : Uint8Array.from(Buffer.from(word.replace(".", ""), "hex")));
@@ -40,6 +40,13 @@ const answers = {
     const named = new Map(heads.map((it, i) => [`auditor ${i}`, headOf(...it.split(":"))]));
     client = await library.vouched(...keys, data(entry), named, number(least), options);
     return "begun";
+  },
+  async succeed(maxAge, skew, signingKey, vrfKey, policy, succession, entry) {
+    const options = { maxAge: seconds(maxAge), skew: seconds(skew), clock: () => now, trust };
+    trust = undefined;
+    const succeeded = await client.succeed(readSuccession(data(succession)), readPolicy(data(policy)), data(entry), options);
+    client = succeeded.client;
+    return all("void", succeeded.void.map((it) => library.body(it).epoch));
   },
   now: (time) => ((now = seconds(time)), "set"),
   trust: (digest, auditors, faulty) => ((trust = { digest: data(digest), auditors: number(auditors), faulty: number(faulty) }), "set"),

@@ -58,9 +58,9 @@ export type Cause =
   "Version" | "VersionBack" | "FirstEpoch" | "NotLater" | "PreviousEpoch" | "PreviousLink" | "NonceChanged" | "Signature" |
   "EntryLength" | "NoReply" | "ReplyVersion" | "CutInEntry" | "CutInVrf" | "CatchUpLength" | "NoHistory" | "HistoryVersion" |
   "CutInStep" | "EpochOrder" | "UnknownEnd" | "SiblingMap" | "SiblingRepeated" | "EndRepeated" | "OtherPolicy" | "Malformed" |
-  "Equivocation" | "UnknownEpoch" | "OtherEpoch" | "Stale" | "Future" | "VrfProof" | "StateLength" | "StateVersion" |
-  "StateDamaged" | "StatePolicy" | "StateForm" | "StateChain" | "NotVouched" | "AuditorsDiffer" | "SigningKey" | "VrfKey" |
-  "PolicyKeys";
+  "Equivocation" | "UnknownEpoch" | "OtherEpoch" | "Stale" | "Future" | "VrfProof" | "SuccessionPolicy" | "SuccessionSignature"
+  | "NextPolicy" | "ChainDiffers" | "OtherStart" | "StateLength" | "StateVersion" | "StateDamaged" | "StatePolicy" | "StateForm"
+  | "StateChain" | "NotVouched" | "AuditorsDiffer" | "SigningKey" | "VrfKey" | "PolicyKeys";
   // formats.toml: end
 
 /** A client refuses what it was given, and keeps nothing of it. */
@@ -96,6 +96,8 @@ export class Policy {
   readonly proofsKept: bigint | null;
   /** Whether the directory promises that each key is a record of its owner (docs/FORMATS.md, "Keys that their owners vouch for"). */
   readonly recordsVouched: boolean;
+  /** The public key that signs a succession (Ed25519), which is kept offline, null if the directory has none. */
+  readonly successorKey: Uint8Array | null;
   readonly document: Uint8Array;
   /** The policy digest of each body, 32 bytes. */
   readonly digest: Uint8Array;
@@ -103,6 +105,25 @@ export class Policy {
 
 /** Returns the policy of a document (docs/FORMATS.md, "The policy document"). Throws a RangeError for any other bytes. */
 export function readPolicy(document: Uint8Array): Policy;
+
+/** What ends the chain of one policy, and names the directory that goes on. Made by `readSuccession`. */
+export class Succession {
+  private constructor();
+  /** The digest of the policy that ends, 32 bytes. */
+  readonly policy: Uint8Array;
+  /** The last head of its chain. */
+  readonly last: Head;
+  /** The digest of the policy that goes on, 32 bytes. */
+  readonly nextPolicy: Uint8Array;
+  /** The first head of its chain that counts. */
+  readonly first: Head;
+  /** The lines that the signature is over. */
+  readonly lines: Uint8Array;
+  readonly signature: Uint8Array;
+}
+
+/** Returns what a succession says (docs/FORMATS.md, "A succession"). Throws a RangeError for any other bytes. A client verifies it. */
+export function readSuccession(text: Uint8Array): Succession;
 
 /** A signature scheme with its public key, in place of an Ed25519 key. */
 export interface SignatureScheme {
@@ -239,6 +260,13 @@ export interface Client {
   note(epoch: number | bigint): void;
   /** Returns what to report to the owner of the watched name. Throws a RangeError if none is watched. */
   report(): Report;
+  /**
+   * Returns a client of the directory that a succession of this one's policy names, which watches the same name, and the entries of this
+   * one that are void. `policy` is the next policy, and `entry` the first one of its chain that counts. This client stays as it is: if an
+   * entry is void, keep one with the succession, and tell the user. A client that has only the digest of its policy knows no successor
+   * key. Throws `Refusal`.
+   */
+  succeed(succession: Succession, policy: Policy, entry: Uint8Array, options?: ClientOptions): Promise<{ readonly client: Client; readonly void: Uint8Array[] }>;
   /** Returns what convicts the provider together with another one's entry, or null. Throws `Refusal` if that isn't signed. */
   evidence(entry: Uint8Array): Promise<Evidence | null>;
   /** The entries that are stored, in the order of the chain. */

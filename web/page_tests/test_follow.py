@@ -17,7 +17,7 @@ from browser import WEB, Browser, count, texts
 from client_world import FIRST, World, hour
 from coniks import Head, Policy
 from coniks.notes import Auditor, Note, cosign, text_of
-from coniks.vouching import Place, Record, convicts, first, following
+from coniks.vouching import Place, Record, announced, convicts, first, following, reset
 from directories import VOUCHED, Batches, Directory, Reply
 from nacl.signing import SigningKey
 
@@ -27,7 +27,7 @@ POLICY = Policy.read(client_world.POLICY.encode())
 KEYS = {name: SigningKey(name.encode().ljust(32)) for name in ["one", "two", "three", "four", "five", "other", "alice"]}
 AUDITORS = [Auditor(name, bytes(KEYS[name].verify_key)) for name in ["one", "two"]]
 # Alice's records, and a directory that has the first one.
-ALICE = Place(POLICY.digest, "alice")
+ALICE = Place.of(POLICY, "alice")
 RECORD = first(ALICE, KEYS["alice"], b"key of alice")
 NEXT = following(ALICE, KEYS["alice"], RECORD, b"next key")
 BEGUN = [(1, {**FIRST, "alice": RECORD}), (2, {"carol": b"key of carol"})]
@@ -209,9 +209,9 @@ def test_hostile_names(visitor: Visitor) -> None:
 
 # Bytes that look like a record of dave's and are none: whom the page can't call their owner.
 UNSIGNED = {
-    "no signature": bytes(Record((1 << 64) - 1, bytes(KEYS["alice"].verify_key), bytes(32), bytes(64), b"own key")),
+    "no signature": bytes(Record((1 << 64) - 1, bytes(KEYS["alice"].verify_key), bytes(32), 0, 0, bytes(64), b"own key")),
     "another name's": RECORD,
-    "another directory's": first(Place(bytes(32), "dave"), KEYS["alice"], b"own key"),
+    "another directory's": first(Place([bytes(32)], "dave", True), KEYS["alice"], b"own key"),
 }
 
 
@@ -255,10 +255,44 @@ def test_unvouched_change(visitor: Visitor, value: bytes) -> None:
     assert visitor.look("nobody") and visitor.is_verified
 
 
+def test_reset(anywhere: Browser) -> None:
+    """A notice is told beside the key that is as before. A reset is red and not stored, and a closed name has no key."""
+    policy = Policy.read(VOUCHED.encode())
+    place, alice, other = Place.of(policy, "alice"), KEYS["alice"], KEYS["other"]
+    record = first(place, alice, b"key of alice", 1)
+    notice = announced(record, bytes(other.verify_key), 4)
+    site = Site([(1, {"alice": record, "bob": first(Place.of(policy, "bob"), alice, b"k")}), (2, {})], VOUCHED)
+    with site:
+        visitor = Visitor(anywhere, site)
+        visitor.begin(VOUCHED)
+        assert visitor.look("alice").startswith("Verified and stored") and visitor.look("bob").startswith("Verified and stored")
+        site.confirmed(3, alice=notice, bob=following(Place.of(policy, "bob"), alice, bob_of(site), b""))
+        wanted = (
+            'Verified and stored: "alice" has the key "key of alice" in record 1 of its owner at epoch 3. A reset of this name is'
+        )
+        assert visitor.look("alice").startswith(f"{wanted} announced for epoch 4: ask its owner.") and visitor.is_verified
+        assert visitor.look("bob").startswith('Verified and stored: "bob" has no key: record 2 of its owner closes it at epoch 3.')
+        visitor.now(4)
+        site.confirmed(4, alice=reset(place, other, notice, b"other key"))
+        for _ in range(2):
+            visitor.open()
+            printed = visitor.look("alice")
+            assert (
+                "was reset for who has lost its secret key: verify this key with its owner" in printed and not visitor.is_verified
+            )
+            assert count(visitor.browser, "#result .bad") == 1 and count(visitor.browser, "#alarms pre") == 0
+        visitor.close()
+
+
+def bob_of(site: Site) -> bytes:
+    """The record that bob has at first."""
+    return site.world.epochs[1].names[client_world.index("bob")][2]
+
+
 def test_broken_promise(anywhere: Browser) -> None:
     """Under a policy that promises records it is an alarm that stays, and what is kept convicts the directory."""
     policy = Policy.read(VOUCHED.encode())
-    place = Place(policy.digest, "alice")
+    place = Place.of(policy, "alice")
     record, other = (first(place, KEYS[it], b"key of alice") for it in ("alice", "other"))
     site = Site([(1, {"alice": record}), (2, {})], VOUCHED)
     with site:

@@ -78,6 +78,17 @@ export class Chain {
     this.#checkEntry(this.core.start(heads, least, entry, isSigned, this.second()), entry);
   }
 
+  /** Whether an entry has a valid signature. @param {Uint8Array} entry @returns {Promise<boolean>} */
+  isSigned(entry) {
+    return this.#verifier.ofEntry(entry);
+  }
+
+  /** What an entry convicts the provider of by itself, null if a chain can have it. @param {Uint8Array} entry @returns {Evidence | null} */
+  alone(entry) {
+    const { status, kind } = this.#coniks.convicts(entry, entry);
+    return status === GOOD ? evidenceOf(/** @type {string} */ (KINDS.get(kind)), entry, entry) : null;
+  }
+
   /** What convicts the provider together with another one's entry. @param {Uint8Array} entry @returns {Promise<Evidence | null>} */
   async evidence(entry) {
     const isSigned = await this.#verifier.ofEntry(entry);
@@ -86,8 +97,7 @@ export class Chain {
       this.check(status);
       return this.#evidence(why, entry);
     }
-    const alone = this.#coniks.convicts(entry, entry);
-    return alone.status === GOOD ? evidenceOf(/** @type {string} */ (KINDS.get(alone.kind)), entry, entry) : null;
+    return this.alone(entry);
   }
 
   /** Reads a state. @param {Uint8Array} state */

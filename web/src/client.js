@@ -11,6 +11,8 @@ import { NOWHERE } from "./core.js";
 import { ENTRY, GOOD, MISUSED } from "./formats.js";
 import { Refusal } from "./messages.js";
 import { Policy } from "./policy.js";
+import { goOn, ofSuccession } from "./succeeding.js";
+import { Succession } from "./succession.js";
 import { bytes, nameBytes, seconds, unsigned, whole } from "./values.js";
 import { Verifier } from "./verdicts.js";
 
@@ -88,10 +90,11 @@ export class Client {
   #chain;
   #core;
   #hasTrust;
+  #policy;
 
-  /** Call `of` or `vouched`. @param {Coniks} coniks @param {Chain} chain @param {boolean} hasTrust */
-  constructor(coniks, chain, hasTrust) {
-    [this.#coniks, this.#chain, this.#core, this.#hasTrust] = [coniks, chain, chain.core, hasTrust];
+  /** Call `of` or `vouched`. @param {Coniks} coniks @param {Chain} chain @param {boolean} hasTrust @param {any} policy */
+  constructor(coniks, chain, hasTrust, policy) {
+    [this.#coniks, this.#chain, this.#core, this.#hasTrust, this.#policy] = [coniks, chain, chain.core, hasTrust, policy];
   }
 
   /**
@@ -107,7 +110,7 @@ export class Client {
     const [chain, hasTrust] = [await Chain.of(coniks, settings, verifier), settings.trust !== NO_TRUST];
     if (hasTrust && chain.core.quorum === 0n) throw new RangeError("more than three auditors are needed for each one that may lie");
     if (resumed !== null) await chain.resume(resumed);
-    return new Client(coniks, chain, hasTrust);
+    return new Client(coniks, chain, hasTrust, policy);
   }
 
   /**
@@ -237,6 +240,25 @@ export class Client {
 
   #epochs() {
     return this.#places().map((k) => this.#core.epoch(k));
+  }
+
+  // The succession.
+
+  /**
+   * A client of the directory that a succession names, and the entries of this one that are void. `policy` is the next policy, and `entry`
+   * the first one of its chain that counts. This client stays as it is.
+   * @param {any} succession @param {any} policy @param {any} entry @param {any} options
+   * @returns {Promise<{readonly client: Client, readonly void: Uint8Array[]}>}
+   */
+  async succeed(succession, policy, entry, options = {}) {
+    const first = bytes(entry, "an entry");
+    const isGiven = succession instanceof Succession && policy instanceof Policy;
+    if (!isGiven) throw new TypeError("a succession is a Succession, and its next policy a Policy: readSuccession and readPolicy read them");
+    if (options.state !== undefined) throw new TypeError("a client that goes on in another directory has no state");
+    const client = await Client.of(this.#coniks, policy.signingKey, policy.vrfKey, policy, options);
+    const key = this.#policy instanceof Policy ? this.#policy.successorKey : null;
+    const place = await goOn(client.#chain, this.#chain, { succession, isSigned: await ofSuccession(succession, key) }, first);
+    return Object.freeze({ client, void: this.entries.slice(place + 1) });
   }
 
   // Lookups.

@@ -21,14 +21,17 @@ import { ENTRY, GOOD } from "./formats.js";
  * @typedef {{epoch: bigint, link: Uint8Array}} Head
  */
 
-const [CORE, STORED_ENTRY, CHANGE, ALARM, VERDICTS, HEAD, SIBLINGS, STEP, LONG] = [264, 218, 32, 16, 40, 48, 8192, 32, 8];
+/** The bytes of `coniks_core` and of `coniks_stored_entry`. */
+export const CORE = 264;
+export const STORED_ENTRY = 218;
+const [CHANGE, ALARM, VERDICTS, HEAD, SIBLINGS, STEP, LONG] = [32, 16, 40, 48, 8192, 32, 8];
 /** Where the members of `coniks_core` are. The clock, the promise and the quorum follow one another, and so do the marks and their number. */
-const AT = { policy: 0n, trust: 32n, clock: 64n, quorum: 120n, watch: 128n, stored: 176n, changes: 200n, alarms: 224n, marks: 248n };
+export const AT = { policy: 0n, trust: 32n, clock: 64n, quorum: 120n, watch: 128n, stored: 176n, changes: 200n, alarms: 224n, marks: 248n };
 /** A place that is none: SIZE_MAX. */
 export const NOWHERE = 2n ** 64n - 1n;
 
 /** @param {number} count @returns {bigint[]} */
-const zeros = (count) => Array(count).fill(0n);
+export const zeros = (count) => Array(count).fill(0n);
 /** The short numbers of a word. @param {bigint} word @returns {[number, number]} */
 const halves = (word) => [Number(word & 0xffffffffn), Number(word >> 32n)];
 /** @param {Uint8Array} bytes @param {number} at @returns {bigint} */
@@ -75,6 +78,11 @@ export class Core {
     this.#chain = new Rows(desk, STORED_ENTRY, core + AT.stored);
     this.#changes = new Rows(desk, CHANGE, core + AT.changes);
     this.#alarms = new Rows(desk, ALARM, core + AT.alarms);
+  }
+
+  /** What a call in another module needs. */
+  get parts() {
+    return { calls: this.#calls, desk: this.#desk, core: this.#core, chain: this.#chain, changes: this.#changes };
   }
 
   // What calls take.

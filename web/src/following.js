@@ -7,7 +7,7 @@ import { fromHex, isSame, joined, toHex } from "./bytes.js";
 import { Client } from "./client.js";
 import { agreed } from "./confirming.js";
 import { ENTRY } from "./formats.js";
-import { epochBefore, epochOf } from "./layout.js";
+import { epochBefore, epochOf, policyOf } from "./layout.js";
 import { Refusal } from "./messages.js";
 import { canonical } from "./names.js";
 import { readPolicy } from "./policy.js";
@@ -36,9 +36,9 @@ import { isSigned, judged, readRecord } from "./vouching.js";
  *
  * What is reported of a name: whether its key is in a record of its owner; what that is to the one that was accepted last, null if
  * there is none; whether a quorum confirms the epoch; and whether something is there that the user must see. The key is verified if all of
- * this is good; or it is an unvouched change; or it is what the directory shows.
+ * this is good; or it is an unvouched change; or a reset; or it is what the directory shows.
  * @typedef {{isRecord: boolean, change: import("./vouching.js").Change | null, isConfirmed: boolean, isAlarmed: boolean}} Findings
- * @typedef {Findings & {verdict: "verified" | "unvouched" | "shown"}} Judgement
+ * @typedef {Findings & {verdict: "verified" | "unvouched" | "reset" | "shown"}} Judgement
  *
  * @typedef {import("./confirming.js").Agreement} Agreement
  * @typedef {{status: number, body: Uint8Array}} Answer
@@ -80,9 +80,18 @@ function shownBy(reply) {
   return { epoch: epochOf(entry), key: "key" in end ? end.key : new Uint8Array(0) };
 }
 
+/**
+ * The epochs of two replies, the earlier one in hexadecimal digits; null if they are under different policies.
+ * @param {string} before @param {Uint8Array} now @returns {import("./vouching.js").Span | null}
+ */
+function spanOf(before, now) {
+  const [old, { entry }] = [partsOf(/** @type {Uint8Array} */ (fromHex(before))).entry, partsOf(now)];
+  return isSame(policyOf(old), policyOf(entry)) ? { earlier: epochOf(old), before: epochBefore(entry), later: epochOf(entry) } : null;
+}
+
 /** @param {Uint8Array | null} key @param {Findings} findings @returns {Judgement["verdict"]} */
 export function verdictOf(key, { isRecord, change, isConfirmed, isAlarmed }) {
-  if (change === "unvouched") return "unvouched";
+  if (change === "unvouched" || change === "reset") return change;
   return isConfirmed && !isAlarmed && (isRecord || key === null) ? "verified" : "shown";
 }
 
@@ -185,9 +194,10 @@ export class Follower {
    */
   async #judged(it, name, found, reply, agreement) {
     const { key } = found;
-    const [place, seen, record] = [{ policy: it.policy.digest, name }, new Map(it.saved.seen), readRecord(key)];
+    const place = { policies: [it.policy.digest], name, hasClock: it.policy.epochPeriod !== null };
+    const [seen, record] = [new Map(it.saved.seen), readRecord(key)];
     const before = seen.get(name);
-    const change = before === undefined ? null : await judged(place, shownBy(before).key, key);
+    const change = before === undefined ? null : await judged(place, shownBy(before).key, key, spanOf(before, reply));
     if (before !== undefined && change === "unvouched" && it.policy.recordsVouched) this.#alarm(it, { kind: "unvouched", who: name, parts: [before, toHex(reply)] });
     const isRecord = record !== null && (await isSigned(record, place));
     const isAlarmed = it.saved.found.length > 0;

@@ -6,9 +6,10 @@ import { ABSENT, BODY, CAUSES, CHANGED, GOOD, KINDS, NO_EVIDENCE } from "./forma
 import { Refusal } from "./messages.js";
 import { Policy, readPolicy } from "./policy.js";
 import { Unsupported } from "./schemes.js";
+import { Succession, readSuccession } from "./succession.js";
 import { bytes, nameBytes, unsigned } from "./values.js";
 
-export { Policy, Refusal, Unsupported, readPolicy };
+export { Policy, Refusal, Succession, Unsupported, readPolicy, readSuccession };
 
 const STATE_BYTES = 80;
 const UNUSED = 7;

@@ -9,7 +9,7 @@ const KEY = "([0-9a-f]{64})";
 const DOCUMENT = new RegExp(
   `^policy coniks-1\norigin ([!-~]{1,255})\nsignature Ed25519\nsigning-key ${KEY}\n` +
     `vrf (?:none|ECVRF-EDWARDS25519-SHA512-TAI\nvrf-key ${KEY})\n(?:epoch-start ${NUMBER}\nepoch-period ${NUMBER}\n)?` +
-    `evidence one-chain\n(records vouched\n)?proofs-kept (?:forever|${NUMBER})\n$`,
+    `evidence one-chain\n(records vouched\n)?(?:successor-key (none|[0-9a-f]{64})\n)?proofs-kept (?:forever|${NUMBER})\n$`,
 );
 
 /** @param {string | undefined} digits @returns {bigint | null} */
@@ -21,9 +21,9 @@ export class Policy {
   #keys;
 
   /** @param {Uint8Array} document @param {string[]} parts */
-  constructor(document, [, origin, signingKey, vrfKey, start, period, records, saved]) {
+  constructor(document, [, origin, signingKey, vrfKey, start, period, records, successor, saved]) {
     this.#document = document;
-    this.#keys = { signing: signingKey, vrf: vrfKey };
+    this.#keys = { signing: signingKey, vrf: vrfKey, successor };
     this.origin = origin;
     this.epochStart = numberIn(start);
     this.epochPeriod = numberIn(period);
@@ -47,6 +47,10 @@ export class Policy {
   get vrfKey() {
     return this.#keys.vrf === undefined ? null : fromHex(this.#keys.vrf);
   }
+
+  get successorKey() {
+    return [undefined, "none"].includes(this.#keys.successor) ? null : fromHex(this.#keys.successor);
+  }
 }
 
 /**
@@ -57,8 +61,9 @@ export class Policy {
 export function readPolicy(document) {
   const given = bytes(document, "the policy document");
   const parts = DOCUMENT.exec(Array.from(given.subarray(0, 2048), (it) => String.fromCharCode(it)).join(""));
-  const numbers = parts === null ? [] : [parts[4], parts[5], parts[7]].map(numberIn);
-  if (parts === null || given.length > 2048 || numbers.some((it) => it !== null && it >= 2n ** 64n) || numbers[1] === 0n) {
+  const numbers = parts === null ? [] : [parts[4], parts[5], parts[8]].map(numberIn);
+  const isWrong = numbers.some((it) => it !== null && it >= 2n ** 64n) || numbers[1] === 0n || parts?.[7] === parts?.[2];
+  if (parts === null || given.length > 2048 || isWrong) {
     throw new RangeError("this is no policy document of docs/FORMATS.md: take the bytes that its directory publishes");
   }
   return new Policy(given, parts);

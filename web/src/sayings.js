@@ -19,12 +19,14 @@ import { counting, keyText } from "./words.js";
 const FOUND = {
   verified: { colour: "good", start: "Verified and stored: " },
   unvouched: { colour: "bad", start: "The directory shows: " },
+  reset: { colour: "bad", start: "The directory shows: " },
   shown: { colour: "", start: "The directory shows: " },
 };
 
 /** Why a found key is not verified. */
 const DOUBTS = {
   unvouched: "The owner of the key before did not sign the change: don't use it.",
+  reset: "The name was reset for who has lost its secret key: verify this key with its owner by another channel.",
   unrecorded: "No owner vouches for this key.",
   unsigned: "These bytes look like a record of an owner, and are not signed as one.",
   alarmed: "Something was found that you must see, above: rely on nothing new.",
@@ -59,7 +61,7 @@ const SUMS = {
  */
 const ALARMS = {
   head: (who) => ["The auditor ", { auditor: who }, " cosigned another chain: the directory or this auditor lies. This convicts nobody alone. Rely on nothing new, and ask the auditor for its entries:"],
-  unvouched: (who) => ["Two replies for ", { name: who }, " convict this directory: the owner of the key in the first did not sign what the second shows. Keep them, and publish them:"],
+  unvouched: (who) => ["Two replies for ", { name: who }, " convict this directory: the owner of the key in the first did not sign what the second shows, and no notice of a reset allows it. Keep them, and publish them:"],
   evidence: () => ["Two entries that this directory signed convict it. Keep them, and publish them:"],
 };
 
@@ -92,7 +94,7 @@ export function sumSaying(agreement, isAlarmed) {
 export function foundSaying(found) {
   const { name, epoch, verdict } = found;
   const { colour, start } = FOUND[verdict];
-  const end = verdict === "verified" ? "." : [unconfirmed(found), ...doubts(found)].join(" ");
+  const end = [verdict === "verified" ? "." : unconfirmed(found), ...doubts(found), ...announced(found)].join(" ");
   return { colour, words: [start, { name }, " has ", ...keyWords(found), ` at epoch ${epoch}${end}`] };
 }
 
@@ -100,6 +102,7 @@ export function foundSaying(found) {
 function keyWords({ key, isRecord, change, before }) {
   if (key === null) return [before === null ? "no key" : "no key any more, and no directory removes a name"];
   const record = isRecord ? readRecord(key) : null;
+  if (record !== null && record.key.length === 0) return [`no key: record ${record.number} of its owner closes it`];
   // Another voucher than before is nobody's word that the owner is the same.
   const whose = record !== null && change !== "unvouched" ? [` in record ${record.number} of its owner`] : [];
   const words = ["the key ", { key: keyText(record?.key ?? key, 400) }, ...whose];
@@ -114,10 +117,17 @@ function unconfirmed({ agreement, isConfirmed }) {
   return agreement.verdict === "unnamed" ? ", which no auditor confirms." : ", which too few of your auditors confirm.";
 }
 
+/** What is said of a reset that is announced. @param {Parameters<typeof foundSaying>[0]} found @returns {string[]} */
+function announced({ key }) {
+  const asked = readRecord(key)?.asked;
+  return asked ? [`A reset of this name is announced for epoch ${asked.effect}: ask its owner.`] : [];
+}
+
 /** @param {Parameters<typeof foundSaying>[0]} found @returns {string[]} */
 function doubts({ key, isRecord, change, isAlarmed }) {
   const why = [];
   if (key !== null && change === "unvouched") why.push(DOUBTS.unvouched);
+  else if (change === "reset") why.push(DOUBTS.reset);
   else if (key !== null && !isRecord) why.push(readRecord(key) === null ? DOUBTS.unrecorded : DOUBTS.unsigned);
   return isAlarmed ? [...why, DOUBTS.alarmed] : why;
 }

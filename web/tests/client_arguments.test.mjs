@@ -6,7 +6,7 @@ import { createHash } from "node:crypto";
 import { readFileSync } from "node:fs";
 import { test } from "node:test";
 
-import { Policy, Refusal, Unsupported, load, readPolicy } from "../out/coniks.js";
+import { Policy, Refusal, Unsupported, load, readPolicy, readSuccession } from "../out/coniks.js";
 import { Coniks } from "../src/coniks.js";
 import { Refusal as Refused } from "../src/messages.js";
 import { data, hex, read, same, textBytes, throwing, thrown } from "../telling.mjs";
@@ -93,6 +93,27 @@ test("the policy that promises records", async () => {
     ["evidence one-chain\nrecords vouched\n", "records vouched\nevidence one-chain\n"], ["kept forever", `kept ${2n ** 64n}`], ["period 3600", "period 0"],
   ];
   for (const [from, to] of wrong) await throwing(`no policy: ${to.slice(0, 40)}`, () => readPolicy(textBytes(text.replace(from, to))), "RangeError");
+});
+
+test("the succession of the example", async () => {
+  const [ends, goesOn, text] = ["The first policy above with a successor key", "The policy that goes on has the third key", "Each chain has the two epochs"].map(
+    (it) => `${example(it).join("\n")}\n`,
+  );
+  const [old, next] = [readPolicy(textBytes(ends)), readPolicy(textBytes(goesOn))];
+  same("the successor keys", [old.successorKey, next.successorKey, policy.successorKey], [data("ec172b93ad5e563bf4932c70e1245034c35467ef2efd4d64ebf819683467e2bf"), null, null]);
+  const it = readSuccession(textBytes(text));
+  same("its policies", [it.policy, it.nextPolicy], [old.digest, next.digest]);
+  same("its epochs", [it.last.epoch, it.first.epoch], [2, 2]);
+  same("its text", `${new TextDecoder().decode(it.lines)}signature ${hex(it.signature)}\n`, text);
+  for (const [from, to] of [["last-epoch 2", "last-epoch 0"], ["first-epoch 2", `first-epoch ${2n ** 64n}`], ["coniks-1", "coniks-2"], ["\nsignature", "\n\nsignature"], [hex(it.nextPolicy), hex(it.policy)]]) {
+    await throwing(`no succession: ${to.slice(0, 40)}`, () => readSuccession(textBytes(text.replace(from, to))), "RangeError");
+  }
+  await throwing("the signing key as successor key", () => readPolicy(textBytes(ends.replace(hex(old.successorKey), hex(old.signingKey)))), "RangeError");
+  const client = await library.client(old.signingKey, old.vrfKey, old, { clock: () => start });
+  for (const wrong of [[text, next, entries[0]], [it, goesOn, entries[0]], [it, next.digest, entries[0]], [it, next, "00"], [it, next, entries[0], { state }], [it, next, entries[0], { age: 7 }]]) {
+    await throwing("arguments of succeed", () => client.succeed(...wrong), "TypeError");
+  }
+  same("an epoch that the chain does not have", await thrown(() => client.succeed(it, next, entries[0])), "UnknownEpoch");
 });
 
 /** Documents that differ in one line from the example, of which a policy has exactly one. */

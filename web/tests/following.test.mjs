@@ -65,33 +65,49 @@ test("notes that were changed", async () => {
   await throwing("no UTF-8", () => readNote(Uint8Array.of(255)), "BadNote");
 });
 
-const [record, next] = example("Keys that their owners vouch for", "766f7563").split("\n\n").map((it) => data(it.replace(/\s/g, "")));
-const place = { policy: policy.digest, name: "alice" };
+const [record, next, notice, reset] = formats
+  .slice(formats.indexOf("\n## Keys that their owners vouch for\n"))
+  .split("\n\n")
+  .filter((it) => it.startsWith("    766f7563") || it.startsWith("    6e6f7469"))
+  .map((it) => data(it.replace(/\s/g, "")));
+const vouched = readPolicy(textBytes(`policy coniks-1\n${formats.split("\n    policy coniks-1\n")[2].split("\n\n")[0].replaceAll("    ", "")}\n`));
+const place = { policies: [vouched.digest], name: "alice", hasClock: true };
 
 /** A copy with another byte at a place. @param {Uint8Array} bytes @param {number} at @param {number} value */
 const changed = (bytes, at, value) => bytes.map((it, i) => (i === at ? value : it));
 
 test("records of owners", async () => {
-  const read = [record, next].map(readRecord);
-  same("the examples", read.map((it) => it && { number: it.number, key: it.key }), [{ number: 1, key: "6b" }, { number: 2, key: "6c" }]);
+  const read = [record, next, notice, reset].map(readRecord);
+  const parts = read.map((it) => it && { number: it.number, key: it.key, notice: it.notice, effect: it.effect, asked: it.asked && it.asked.effect });
+  same("the examples", parts, [
+    { number: 1, key: "6b", notice: 168, effect: 0, asked: null },
+    { number: 2, key: "6c", notice: 168, effect: 0, asked: null },
+    { number: 2, key: "6c", notice: 168, effect: 0, asked: 200 },
+    { number: 3, key: "6d", notice: 168, effect: 200, asked: null },
+  ]);
   for (const it of read) same("their signatures", it && (await isSigned(it, place)), true);
-  for (const other of [{ ...place, name: "bob" }, { ...place, policy: new Uint8Array(32) }]) same("elsewhere", read[0] && (await isSigned(read[0], other)), false);
-  for (const at of [15, 50, 90, 144]) {
+  for (const other of [{ ...place, name: "bob" }, { ...place, policies: [new Uint8Array(32)] }]) same("elsewhere", read[0] && (await isSigned(read[0], other)), false);
+  same("a policy of the line", read[0] && (await isSigned(read[0], { ...place, policies: [vouched.digest, new Uint8Array(32)] })), true);
+  for (const at of [15, 50, 85, 90, 106, 160]) {
     const altered = readRecord(changed(record, at, record[at] ^ 1));
     same(`byte ${at} is another one`, altered && (await isSigned(altered, place)), false);
   }
-  const others = [record.slice(0, -1), changed(record, 7, 0), record.map((it, i) => (i >= 16 && i < 48 ? 0 : it)), textBytes("vouched1"), new Uint8Array(0), null];
-  same("no records", others.map(readRecord), [null, null, null, null, null, null]);
+  const others = [record.slice(0, 159), changed(record, 7, 0), record.map((it, i) => (i >= 16 && i < 48 ? 0 : it)), notice.map((it, i) => (i >= 8 && i < 40 ? 0 : it)), notice.slice(0, 47), textBytes("vouched1"), new Uint8Array(0), null];
+  same("no records", others.map(readRecord), others.map(() => null));
 });
 
 test("what bytes are to those before", async () => {
-  // The table of docs/FORMATS.md, row by row, and what it doesn't let pass.
-  const plain = textBytes("k");
-  const skipped = changed(next, 15, 3);
-  for (const [before, now, wanted] of [[record, record, "same"], [plain, plain, "same"], [record, null, "unvouched"], [plain, null, "unvouched"], [plain, record, "unknown"], [plain, textBytes("l"), "unknown"], [record, plain, "unvouched"], [next, record, "unvouched"], [record, changed(next, 60, next[60] ^ 1), "unvouched"], [record, next, "vouched"], [record, changed(next, 144, 1), "unvouched"], [record, skipped, "unvouched"]]) {
-    same(`after ${before} ${now}`, await judged(place, /** @type {any} */ (before), /** @type {any} */ (now)), wanted);
+  // The table that the second implementation has written, whose steps of services this module has not.
+  const rows = read("cases/records.jsonl").trimEnd().split("\n").map((it) => JSON.parse(it));
+  const results = new Set();
+  for (const { name, policies, of, clock, earlier, later, epochs, result } of rows.filter((it) => "result" in it)) {
+    const given = { policies: policies.map(data), name: of, hasClock: clock };
+    const [a, b, c] = epochs === null ? [] : epochs.map(BigInt);
+    const found = await judged(given, data(earlier), later === null ? null : data(later), epochs === null ? null : { earlier: a, before: b, later: c });
+    same(name, found, result);
+    results.add(result);
   }
-  same("another name's", await judged({ ...place, name: "bob" }, record, next), "unvouched");
+  same("all results", [...results].sort(), ["reset", "same", "unknown", "unvouched", "vouched"]);
 });
 
 test("the parts of a reply", () => {

@@ -12,13 +12,16 @@ function textOf({ colour, words }) {
   return `${colour || "plain"}: ${texts.join("")}`;
 }
 
-/** The records of docs/FORMATS.md, of the keys `k` and `l`. */
+/** The records of docs/FORMATS.md, of the keys `k` and `l`, the notice of a reset, and the record of that, of the key `m`. */
 const formats = read("docs/FORMATS.md");
-const [RECORD, NEXT] = formats
+const [RECORD, NEXT, NOTICE, RESET] = formats
   .slice(formats.indexOf("\n## Keys that their owners vouch for\n"))
   .split("\n\n")
-  .filter((it) => it.startsWith("    766f7563"))
+  .filter((it) => it.startsWith("    766f7563") || it.startsWith("    6e6f7469"))
   .map((it) => data(it.replace(/\s/g, "")));
+
+/** A record without a key, whose signature nothing here verifies. */
+const CLOSED = NEXT.slice(0, 160);
 
 const agreement = (/** @type {string} */ verdict, /** @type {string[]} */ ...says) => ({
   verdict,
@@ -60,15 +63,15 @@ test("what they say together", () => {
 
 test("what the user must see", () => {
   same("a head", textOf(alarmSaying({ kind: "head", who: "one" })), 'bad: The auditor "one" cosigned another chain: the directory or this auditor lies. This convicts nobody alone. Rely on nothing new, and ask the auditor for its entries:');
-  same("a change", textOf(alarmSaying({ kind: "unvouched", who: "alice" })), 'bad: Two replies for "alice" convict this directory: the owner of the key in the first did not sign what the second shows. Keep them, and publish them:');
+  same("a change", textOf(alarmSaying({ kind: "unvouched", who: "alice" })), 'bad: Two replies for "alice" convict this directory: the owner of the key in the first did not sign what the second shows, and no notice of a reset allows it. Keep them, and publish them:');
   for (const kind of ["overlap", "other policy", "malformed"]) same(kind, textOf(alarmSaying({ kind, who: "" })), "bad: Two entries that this directory signed convict it. Keep them, and publish them:");
 });
 
 /** All that a found name can be: its key, what that is to the key before, and what the auditors confirm. */
 function* allFound() {
-  const values = [[null, null, null], [null, RECORD, "unvouched"], [RECORD, null, null], [RECORD, RECORD, "same"], [NEXT, RECORD, "vouched"], [NEXT, RECORD, "unvouched"], [textBytes("plain"), null, null], [textBytes("plain"), textBytes("old"), "unknown"]];
+  const values = [[null, null, null], [null, RECORD, "unvouched"], [RECORD, null, null], [RECORD, RECORD, "same"], [NEXT, RECORD, "vouched"], [NEXT, RECORD, "unvouched"], [NOTICE, NEXT, "same"], [RESET, NOTICE, "reset"], [CLOSED, NEXT, "vouched"], [textBytes("plain"), null, null], [textBytes("plain"), textBytes("old"), "unknown"]];
   for (const [key, before, change] of values) {
-    for (const isRecord of key === RECORD || key === NEXT ? [true, false] : [false]) {
+    for (const isRecord of [RECORD, NEXT, NOTICE, RESET, CLOSED].includes(key) ? [true, false] : [false]) {
       for (const auditors of ["unnamed", "unconfirmed", "confirmed"]) for (const isAlarmed of [false, true]) yield { key, before, change, isRecord, auditors, isAlarmed };
     }
   }
@@ -82,26 +85,30 @@ test("what is found of a name", () => {
     const verdict = verdictOf(/** @type {any} */ (it.key), /** @type {any} */ ({ ...it, isConfirmed }));
     const given = { ...it, name: "alice", epoch: 3n, isConfirmed, verdict, agreement: agreement(auditors, ...(auditors === "unnamed" ? [] : ["agrees", "late"])) };
     const text = textOf(foundSaying(/** @type {any} */ (given)));
-    // Only a confirmed epoch without an alarm, of no key or of the owner's record, is green. Only an unvouched change is red.
-    const isGood = isConfirmed && !it.isAlarmed && it.change !== "unvouched" && (it.key === null || it.isRecord);
-    same(text, text.split(":")[0], isGood ? "good" : it.change === "unvouched" ? "bad" : "plain");
+    // Only a confirmed epoch without an alarm, of no key or of the owner's record, is green. Only an unvouched change and a reset are red.
+    const isRed = it.change === "unvouched" || it.change === "reset";
+    const isGood = isConfirmed && !it.isAlarmed && !isRed && (it.key === null || it.isRecord);
+    same(text, text.split(":")[0], isGood ? "good" : isRed ? "bad" : "plain");
+    same(`${text}: resets`, [text.includes("is announced for epoch 200"), text.includes("was reset")], [it.key === NOTICE, it.change === "reset"]);
     same(`${text}: verified`, text.includes("Verified and stored"), isGood);
     same(`${text}: auditors`, [text.includes("which no auditor confirms"), text.includes("which too few of your auditors confirm")], [auditors === "unnamed", auditors === "unconfirmed"]);
     same(`${text}: alarms`, text.includes("rely on nothing new"), it.isAlarmed);
     same(`${text}: owners`, [text.includes("don't use it"), text.includes("No owner vouches"), text.includes("not signed as one")], [
       it.key !== null && it.change === "unvouched",
-      it.key !== null && it.change !== "unvouched" && !it.isRecord && it.key.length < 9,
-      it.key !== null && it.change !== "unvouched" && !it.isRecord && it.key.length > 9,
+      it.key !== null && !isRed && !it.isRecord && it.key.length < 9,
+      it.key !== null && !isRed && !it.isRecord && it.key.length > 9,
     ]);
     if (isGood) greens.push(text);
     count += 1;
   }
-  same("all of them", count, 72);
+  same("all of them", count, 108);
   same("what is green", greens, [
     'good: Verified and stored: "alice" has no key at epoch 3.',
     'good: Verified and stored: "alice" has the key "k" in record 1 of its owner at epoch 3.',
     'good: Verified and stored: "alice" has the key "k" in record 1 of its owner at epoch 3.',
     'good: Verified and stored: "alice" has the key "l" in record 2 of its owner in place of "k", and its owner signed the change at epoch 3.',
+    'good: Verified and stored: "alice" has the key "l" in record 2 of its owner at epoch 3. A reset of this name is announced for epoch 200: ask its owner.',
+    'good: Verified and stored: "alice" has no key: record 2 of its owner closes it at epoch 3.',
   ]);
 });
 
