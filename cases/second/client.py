@@ -13,6 +13,7 @@ from evidence import covered, is_malformed, kind
 from members import Fault
 from policy import NoPolicy, Policy
 from proofs import judge
+from successions import NoSuccession, Succession
 from replies import ENTRY, History, ProofOfBytes, Reader, Reply, entries_of
 
 # The numbers of the errors that have one in C, then those of the client alone.
@@ -24,7 +25,8 @@ NUMBERS = {
     "NoReply": 64, "ReplyVersion": 65, "CutInEntry": 66, "CutInVrf": 67, "CatchUpLength": 68, "NoHistory": 69, "HistoryVersion": 70,
     "CutInStep": 71, "EpochOrder": 72, "UnknownEnd": 73, "SiblingMap": 74, "SiblingRepeated": 75, "EndRepeated": 76,
     "OtherPolicy": 80, "Malformed": 81, "Equivocation": 82, "UnknownEpoch": 83, "OtherEpoch": 84, "Stale": 85, "Future": 86,
-    "VrfProof": 87, "StateLength": 96, "StateVersion": 97, "StateDamaged": 98, "StatePolicy": 99, "StateForm": 100,
+    "VrfProof": 87, "SuccessionPolicy": 88, "SuccessionSignature": 89, "NextPolicy": 90, "ChainDiffers": 91, "OtherStart": 92,
+    "StateLength": 96, "StateVersion": 97, "StateDamaged": 98, "StatePolicy": 99, "StateForm": 100,
     "StateChain": 101, "NotVouched": 104, "AuditorsDiffer": 105, "SigningKey": 112, "VrfKey": 113, "PolicyKeys": 114,
 }  # fmt: skip
 
@@ -34,6 +36,9 @@ SEEN = {UNWATCHED: None, SAME: "same", CHANGED: "changed", ABSENT: "absent", MIS
 
 # What an alarm says of its epoch.
 ALARMS = {CHANGED: "changed", ABSENT: "absent", MISSING: "lost"}
+
+# The greatest number of an epoch.
+LARGEST = 2**64 - 1
 
 # The version of a state, and the bytes of the shortest one.
 VERSION, SHORTEST = 3, 110
@@ -104,6 +109,12 @@ class Watch:
     def without(self, oldest: int) -> Watch:
         """The watch without the changes that have begun at the oldest stored epoch."""
         return replace(self, key=self.key_of(oldest), changes=self.changes[self.begun(oldest) :])
+
+    def carried(self, last: int, first: int) -> Watch:
+        """The watch in the chain that goes on with a first epoch after the last one of this chain."""
+        gone_on = [it for it in self.changes if it.last_old < last < it.first_new]
+        changes = [Change(first - 1, min(first + it.first_new - last, LARGEST), it.key) for it in gone_on]
+        return Watch(self.name, first, self.key_of(last), tuple(changes))
 
     @property
     def is_in_order(self) -> bool:
@@ -236,6 +247,24 @@ class Client:
         if len(there) < least:
             raise refused("NotVouched")
         self.stored = [StoredEntry(entry, now)]
+
+    def succeed(self, succession: Succession, following: Client, entry: bytes, now: int) -> Answer:
+        """Lets a client of the next directory go on, which has seen nothing. Returns the epochs of this one that are void."""
+        if succession.policy != self.policy.digest:
+            raise refused("SuccessionPolicy")
+        if not succession.is_signed(self.policy.successor_key):
+            raise refused("SuccessionSignature")
+        if succession.next_policy != following.policy.digest:
+            raise refused("NextPolicy")
+        (last, link), compared = succession.last, self.compare(*succession.last)["compare"]
+        if compared != "equal":
+            raise refused("UnknownEpoch" if compared == "unknown" else "ChainDiffers")
+        begun = following.signed(entry)
+        if (begun.epoch, begun.link) != succession.first:
+            raise refused("OtherStart")
+        following.watched = self.watched and self.watched.carried(last, begun.epoch)
+        following.stored = [StoredEntry(begun, now, MISSING if following.watched else UNWATCHED)]
+        return {"void": [it.entry.epoch for it in self.stored if it.entry.epoch > last]}
 
     def head(self) -> Answer:
         last = self.latest
@@ -564,12 +593,15 @@ def data(members: Answer, name: str) -> Optional[bytes]:
     return None if value is None else bytes.fromhex(value)
 
 
+def trust_of(members: Answer) -> Trust:
+    trust = members.get("trust")
+    return Trust.of(bytes.fromhex(trust["digest"]), trust["auditors"], trust["faulty"]) if trust else Trust()
+
+
 def begun(case: Answer) -> Client:
     """The client of a case, which goes on from a state or starts late if the case says so."""
-    trust = case.get("trust")
-    named = Trust.of(bytes.fromhex(trust["digest"]), trust["auditors"], trust["faulty"]) if trust else Trust()
     keys = bytes.fromhex(case["signing_key"]), data(case, "vrf_key"), case["policy"].encode()
-    client = Client(*keys, max_age=case.get("max_age"), skew=case.get("skew", 300), trust=named)
+    client = Client(*keys, max_age=case.get("max_age"), skew=case.get("skew", 300), trust=trust_of(case))
     state, vouched = data(case, "state"), case.get("vouched")
     if state is not None:
         client.resume(state)
@@ -577,6 +609,24 @@ def begun(case: Answer) -> Client:
         heads = [(epoch, bytes.fromhex(link)) for epoch, link in vouched["heads"]]
         client.begin_with(bytes.fromhex(vouched["entry"]), heads, vouched["least"], case["now"])
     return client
+
+
+def successor(step: Answer) -> Client:
+    """The client of the next directory, before it goes on."""
+    text = step["policy"].encode()
+    signing, vrf = Policy.read(text).keys
+    return Client(signing, vrf, text, max_age=step.get("max_age"), skew=step.get("skew", 300), trust=trust_of(step))
+
+
+def succeeded(client: Client, step: Answer, now: int) -> tuple[Client, Answer]:
+    """The client after a step, which is another one if it goes on in another directory, and what the step gives."""
+    if step["do"] != "succeed":
+        return client, stepped(client, step, now)
+    try:
+        succession, following = Succession.read(step["succession"].encode()), successor(step)
+    except (NoSuccession, NoPolicy):
+        raise Misuse("the text is no succession, or no policy document") from None
+    return following, client.succeed(succession, following, bytes.fromhex(step["entry"]), now)
 
 
 def stepped(client: Client, step: Answer, now: int) -> Answer:
@@ -614,6 +664,22 @@ def compared(client: Client, step: Answer, now: int) -> Answer:
     return client.compare(epoch, link) if step["do"] == "compare" else client.cover(epoch, link, now)
 
 
+class Run:
+    """The client of a case, and its clock, as the steps go."""
+
+    def __init__(self, client: Client, now: int) -> None:
+        self.client, self.now = client, now
+
+    def step(self, step: Answer) -> Answer:
+        self.now = step.get("now", self.now)
+
+        def call() -> Answer:
+            self.client, answer = succeeded(self.client, step, self.now)
+            return answer
+
+        return outcome(call)
+
+
 def outcome(call: Callable[[], Answer]) -> Answer:
     """What a call returns, or its error as members."""
     try:
@@ -638,11 +704,10 @@ def plain(value: Any) -> Any:
 
 def state_of(case: Answer) -> bytes:
     """The state of a client after the steps of a case."""
-    client, now = begun(case), case["now"]
+    run = Run(begun(case), case["now"])
     for step in case["steps"]:
-        now = step.get("now", now)
-        outcome(lambda: stepped(client, step, now))
-    return client.state
+        run.step(step)
+    return run.client.state
 
 
 def verdicts(case: Answer) -> Answer:
@@ -656,9 +721,6 @@ def verdicts(case: Answer) -> Answer:
     answer = outcome(begin)
     if not made:
         return {"begin": answer, "steps": [], "state": None}
-    client, now = made[0], case["now"]
-    answers = []
-    for step in case["steps"]:
-        now = step.get("now", now)
-        answers.append(outcome(lambda: stepped(client, step, now)))
-    return {"begin": answer, "steps": answers, "state": sha256(client.state).hex()}
+    run = Run(made[0], case["now"])
+    answers = [run.step(it) for it in case["steps"]]
+    return {"begin": answer, "steps": answers, "state": sha256(run.client.state).hex()}

@@ -28,12 +28,16 @@ def policy_text(
     period: int = PERIOD,
     stored: Optional[int] = None,
     records_vouched: bool = False,
+    successor: Optional[bytes] = None,
+    origin: str = "keys.example.com",
 ) -> str:
+    """The text of a policy document. A successor key of no byte stands for the line that says that there is none."""
     scheme = ["vrf none"] if vrf is None else ["vrf ECVRF-EDWARDS25519-SHA512-TAI", f"vrf-key {vrf.hex()}"]
     clock = [f"epoch-start {start}", f"epoch-period {period}"] if has_clock else []
-    front = ["policy coniks-1", "origin keys.example.com", "signature Ed25519", f"signing-key {signing.hex()}"]
+    front = ["policy coniks-1", f"origin {origin}", "signature Ed25519", f"signing-key {signing.hex()}"]
     records = ["records vouched"] if records_vouched else []
-    end = ["evidence one-chain", *records, f"proofs-kept {'forever' if stored is None else stored}"]
+    line = [] if successor is None else [f"successor-key {successor.hex() or 'none'}"]
+    end = ["evidence one-chain", *records, *line, f"proofs-kept {'forever' if stored is None else stored}"]
     return "".join(f"{it}\n" for it in [*front, *scheme, *clock, *end])
 
 
@@ -78,9 +82,16 @@ class Epoch:
 
 class World:
     """A directory. `batches` has the number of each epoch and the keys that its names get; from `rotated` on there is another
-    nonce, and entries have version 2."""
+    nonce, and entries have version 2. `signing` is the secret key."""
 
-    def __init__(self, batches: Sequence[tuple[int, Batch]], rotated: Optional[int] = None, policy: bytes = digest()) -> None:
+    def __init__(
+        self,
+        batches: Sequence[tuple[int, Batch]],
+        rotated: Optional[int] = None,
+        policy: bytes = digest(),
+        signing: bytes = SIGNING,
+    ) -> None:
+        self.signing = signing
         self.epochs: dict[int, Epoch] = {}
         names: dict[bytes, tuple[bytes, bytes, bytes]] = {}
         before: Optional[Entry] = None
@@ -91,15 +102,15 @@ class World:
                 names[index(name)] = name.encode(), sha256(b"opening", name.encode(), number(epoch, 8)), key
             made = Epoch(b"", nonce, dict(names))
             root = node(nonce, (), made.leaves)
-            made.entry = signed(body_after(before, 2 if is_later else 1, epoch, root, nonce, policy))
+            made.entry = signed(body_after(before, 2 if is_later else 1, epoch, root, nonce, policy), signing)
             self.epochs[epoch], before = made, Entry(made.entry)
 
     def sign_again(self, epoch: int) -> None:
         """Signs the body of an epoch again, and those of the later ones over it."""
-        self.epochs[epoch].entry = signed(self[epoch][:145], nonce=7)
+        self.epochs[epoch].entry = signed(self[epoch][:145], self.signing, nonce=7)
         later = [it for it in self.epochs if it > epoch]
         for before, it in zip([epoch, *later], later):
-            self.epochs[it].entry = signed(self[it][:49] + self.link(before) + self[it][81:145])
+            self.epochs[it].entry = signed(self[it][:49] + self.link(before) + self[it][81:145], self.signing)
 
     def __getitem__(self, epoch: int) -> bytes:
         return self.epochs[epoch].entry

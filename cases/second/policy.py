@@ -41,11 +41,14 @@ class Lines:
         del self.rest[: int(found)]
         return found
 
-    def key(self, name: str) -> bytes:
+    def octets(self, name: str, size: int) -> bytes:
         value = self.value(name)
-        if len(value) != 64 or not set(value) <= set(LOWER_HEX):
-            raise NoPolicy(f"{name} is no key")
+        if len(value) != 2 * size or not set(value) <= set(LOWER_HEX):
+            raise NoPolicy(f"{name} does not have {size} bytes")
         return bytes.fromhex(value)
+
+    def key(self, name: str) -> bytes:
+        return self.octets(name, 32)
 
     def number(self, name: str, least: int = 0) -> int:
         value = self.value(name)
@@ -65,6 +68,7 @@ class Policy:
     start: Optional[int]
     period: int
     records_vouched: bool
+    successor_key: Optional[bytes]
     proofs_kept: Optional[int]
 
     @classmethod
@@ -79,10 +83,13 @@ class Policy:
         keys = lines.key("signing-key"), vrf_key(lines)
         start, period = (lines.number("epoch-start"), lines.number("epoch-period", 1)) if lines.has("epoch-start") else (None, 0)
         lines.line("evidence", "one-chain")
-        records_vouched, stored = lines.is_next("records", "vouched"), stored_of(lines)
+        records_vouched, successor = lines.is_next("records", "vouched"), successor_of(lines)
+        stored = stored_of(lines)
         if lines.rest:
             raise NoPolicy("lines follow")
-        return cls(sha256(text), keys, start, period, records_vouched, stored)
+        if successor == keys[0]:
+            raise NoPolicy("the successor key is the signing key")
+        return cls(sha256(text), keys, start, period, records_vouched, successor, stored)
 
     def promises(self, following: int, now: int) -> bool:
         """Whether proofs are promised of an epoch that another one follows."""
@@ -99,6 +106,13 @@ def vrf_key(lines: Lines) -> Optional[bytes]:
         return None
     lines.line("vrf", "ECVRF-EDWARDS25519-SHA512-TAI")
     return lines.key("vrf-key")
+
+
+def successor_of(lines: Lines) -> Optional[bytes]:
+    """The public key that signs a succession, None if there is none."""
+    if lines.is_next("successor-key", "none") or not lines.has("successor-key"):
+        return None
+    return lines.key("successor-key")
 
 
 def stored_of(lines: Lines) -> Optional[int]:
