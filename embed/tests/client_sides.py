@@ -7,6 +7,7 @@ Bytes are hexadecimal digits, `.` for no byte. `-` stands for nothing: no key, n
 |---|---|
 | `begin NOW MAX_AGE SKEW SIGNING_KEY VRF_KEY POLICY STATE`, POLICY is the document | `begun` |
 | `vouched NOW MAX_AGE SKEW SIGNING_KEY VRF_KEY POLICY ENTRY LEAST EPOCH:LINK ..` | `begun` |
+| `succeed MAX_AGE SKEW SIGNING_KEY VRF_KEY POLICY SUCCESSION ENTRY`, of the next directory; SUCCESSION is the text | `void EPOCH ..` |
 | `now SECONDS` sets the clock | `set` |
 | `trust DIGEST AUDITORS FAULTY`, of the trust document that the next client names | `set` |
 | `feed ENTRY ..`, `catchup BYTES` | `fed EPOCH:SEEN ..`, SEEN is `missing` or `-` |
@@ -37,6 +38,7 @@ import copy
 import hashlib
 import json
 import random
+import re
 import subprocess
 import time
 from typing import Any, Callable, Optional, Sequence, Union
@@ -109,6 +111,20 @@ def begin_words(case: Answer) -> list[str]:
     return ["vouched", *clock, *keys, word(vouched["entry"]), number(vouched["least"]), *heads]
 
 
+def key_in(policy: str, name: str) -> Optional[str]:
+    """The digits of a key that a policy document has."""
+    found = re.search(f"^{name} ([0-9a-f]{{64}})$", policy, re.M)
+    return found[1] if found else None
+
+
+def succeed_words(step: Answer) -> list[str]:
+    """The request that goes on in another directory."""
+    limits = [number(step.get(it)) for it in ("max_age", "skew")]
+    keys = [word(key_in(step["policy"], it)) for it in ("signing-key", "vrf-key")]
+    texts = [word(step[it].encode().hex()) for it in ("policy", "succession")]
+    return ["succeed", *limits, *keys, *texts, word(step["entry"])]
+
+
 # The request for a step, by what it does.
 REQUESTS: dict[str, Callable[[Answer], list[str]]] = {
     "feed": lambda it: ["feed", *map(word, it["entries"])],
@@ -128,6 +144,7 @@ REQUESTS: dict[str, Callable[[Answer], list[str]]] = {
     "head": lambda it: ["head"],
     "missing": lambda it: ["missing"],
     "lost": lambda it: ["lost"],
+    "succeed": succeed_words,
 }
 
 
@@ -177,6 +194,8 @@ def answer_of(side: Side, step: Answer, printed: list[str]) -> Answer:
         return {"expect": step["by"]}
     if do in ("missing", "lost") and first == do:
         return {do: [int(it) for it in rest]}
+    if do == "succeed" and first == "void":
+        return {"void": [int(it) for it in rest]}
     if do == "head" and first == "head":
         return {"head": None if rest[0] == "-" else [int(rest[0]), rest[1]]}
     if do in ("compare", "cover") and first in ("equal", "unknown", "differs"):
@@ -221,11 +240,16 @@ def watched_from(state: bytes) -> int:
     return int.from_bytes(state[start : start + 8], "big")
 
 
-def verdicts(side: Side, case: Answer) -> Answer:
-    """All that the client of a case returns: when it is made, for each step, and its state at the end."""
-    trust = case.get("trust")
+def set_trust(side: Side, members: Answer) -> None:
+    """Names the trust document of the next client, if a case or a step has one."""
+    trust = members.get("trust")
     if trust:
         side.ask("trust", word(trust["digest"]), number(trust["auditors"]), number(trust["faulty"]))
+
+
+def verdicts(side: Side, case: Answer) -> Answer:
+    """All that the client of a case returns: when it is made, for each step, and its state at the end."""
+    set_trust(side, case)
     printed = side.ask(*begin_words(case))
     if printed != ["begun"]:
         return {"begin": answer_of(side, {"do": "begin"}, printed), "steps": [], "state": None}
@@ -233,6 +257,7 @@ def verdicts(side: Side, case: Answer) -> Answer:
     for step in case["steps"]:
         if "now" in step:
             side.ask("now", number(step["now"]))
+        set_trust(side, step)
         answers.append(answer_of(side, step, side.ask(*REQUESTS[step["do"]](step))))
     return {"begin": {"begun": True}, "steps": answers, "state": hashlib.sha256(state_of(side)).hexdigest()}
 

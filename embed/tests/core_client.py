@@ -18,6 +18,7 @@ import guarded
 from bytelists import number
 from members import Fault
 from running import SHARED
+from successions import Succession
 from coniks import _core as raw
 from coniks import _Bytes32 as Bytes32
 
@@ -159,6 +160,12 @@ class Memory:
         return int(status)
 
 
+def struct_of(it: Succession, is_signed: object) -> raw.Succession:
+    """A succession with the verdict on its signature."""
+    last, first = (bytes32(link) for _, link in (it.last, it.first))
+    return raw.Succession(is_signed, bytes32(it.policy), it.last[0], last, bytes32(it.next_policy), it.first[0], first)
+
+
 def evidence_of(client: second.Client, why: raw.Why) -> Optional[list[Any]]:
     """The evidence as the second implementation has it: its kind, and the epoch of the client's entry, None for the other one."""
     if not why.kind:
@@ -204,6 +211,24 @@ class Beside(second.Client):
             status = LIBRARY.coniks_core_feed(of(memory.core), self.received(whole, now), of(why))
             fed += self.compared("feed", memory, status, why, lambda: super(Beside, self).feed([whole], now))["fed"]
         return {"fed": fed}
+
+    def succeed(self, succession: Succession, following: second.Client, entry: bytes, now: int) -> second.Answer:
+        """The core makes the next client of what both clients keep, and leaves this one as it is."""
+        assert isinstance(following, Beside)
+        memory, made, place = self.memory(), following.memory(stored=2, changes=2), SIZE(NOWHERE)
+        before, given = made.whole(), struct_of(succession, succession.is_signed(self.policy.successor_key))
+        status = LIBRARY.coniks_core_succeed(memory.core, given, following.received(entry, now), of(made.core), of(place))
+        CALLS["succeed"] += 1
+        try:
+            answer = super().succeed(succession, following, entry, now)
+        except Fault as fault:
+            assert status == second.NUMBERS[str(fault.answer["fault"])], (fault.answer, status)
+            assert (made.whole(), place.value) == (before, NOWHERE), "a refused call writes nothing"
+            raise
+        assert (status, memory.all()) == (0, memory.before) and parts_of(self) == memory.before[1], (answer, status)
+        assert made.all() == following.memory().all(), (answer, "what the next client keeps is the same")
+        assert answer["void"] == [it.entry.epoch for it in self.stored[place.value + 1 :]], (answer, place.value)
+        return answer
 
     def lookup(self, name: bytes, whole: bytes, epoch: Optional[int], now: int) -> second.Answer:
         memory, needs, found, why = self.memory(), raw.Needs(), raw.Found(), raw.Why()

@@ -42,8 +42,8 @@ def test_verdicts() -> None:
     assert having(r"(client_is_signature|client_verify_vrf)\(") == ["client_ecvrf.c", "client_schemes.c"]
     others = "".join(source for name, source in sources.items() if name != "client_verdicts.c")
     # `{0}` is no verdict yet.
-    made = re.findall(r"\b(?:verdicts(?:\[\w+\]|\.\w+)?|is_signed) =(?!\s*\{0\})\s*([^;]*);", others)
-    assert made and all(re.match(r"client_(signature|index)_verdict\(|verify_reply\(", it) for it in made), made
+    made = re.findall(r"\b(?:verdicts(?:\[\w+\]|\.\w+)?|is_signed|parts\.signature) =(?!\s*\{0\})\s*([^;]*);", others)
+    assert made and all(re.match(r"client_(signature|index|succession)_verdict\(|verify_reply\(", it) for it in made), made
 
 
 def test_example(tmp_path: Path) -> None:

@@ -30,6 +30,7 @@ CALLS |= {
     "confirmed",
     "relied",
     "start",
+    "succeed",
     "cover",
     "note",
     "report",

@@ -28,7 +28,7 @@ def test_vet(here: Path) -> None:
 def test_package(here: Path) -> None:
     """The package's tests. Its policies are the examples of docs/FORMATS.md."""
     page = (TOP / "docs/FORMATS.md").read_text("utf-8")
-    for file in ("policy.txt", "vouched_policy.txt"):
+    for file in ("policy.txt", "vouched_policy.txt", "ending_policy.txt", "next_policy.txt", "succession.txt"):
         assert indent((here / "go/testdata" / file).read_text("utf-8"), " " * 4) in page
     go(here, "test", "./...")
 

@@ -22,10 +22,12 @@ FORKS = {
 
 
 class Source(AbstractContextManager["Source"]):
-    """A service on a port of its own. `entries` are what it has, and `page` what it sends in their place if it is there."""
+    """A service on a port of its own. `entries` are what it has, and `page` what it sends in their place if it is there. `succession` is
+    what it shows of the directory's end, under whatever digest, and `status` its status."""
 
     def __init__(self, entries: Sequence[bytes]):
         self.entries, self.note = list(entries), b""
+        self.succession, self.status = b"", 200
         self.page: Optional[Callable[[int], Optional[bytes]]] = None
         self.requested: list[str] = []
         source = self
@@ -34,7 +36,7 @@ class Source(AbstractContextManager["Source"]):
             def do_GET(self) -> None:
                 source.requested.append(self.path)
                 body = source.body(self.path)
-                self.send_response(200 if body is not None else 500)
+                self.send_response(source.status_of(self.path, body))
                 self.end_headers()
                 self.wfile.write(body or b"")
 
@@ -45,10 +47,17 @@ class Source(AbstractContextManager["Source"]):
         threading.Thread(target=self._server.serve_forever, args=(0.02,), daemon=True).start()
         self.url = f"http://127.0.0.1:{self._server.server_address[1]}"
 
+    def status_of(self, path: str, body: Optional[bytes]) -> int:
+        if path.startswith("/v1/succession?policy="):
+            return self.status if body else 404
+        return 200 if body is not None else 500
+
     def body(self, path: str) -> Optional[bytes]:
         if path == "/v1/note":
             return self.note or None
-        after = int(path.partition("after=")[2])
+        if path.startswith("/v1/succession?policy="):
+            return self.succession
+        after = int(path.partition("after=")[2].partition("&")[0])
         if self.page:
             return self.page(after)
         return b"".join(it for it in self.entries if int.from_bytes(it[1:9], "big") > after)

@@ -33,6 +33,7 @@ from coniks import Head, Policy, _http, audit
 from coniks.audit import Audit, Shelf, Unusable, main
 from coniks.notes import Auditor, Note, cosign, read_note, text_of
 
+TOP = Path(__file__).resolve().parents[4]
 POLICY = Policy.read(client_world.POLICY.encode())
 KEYS = {name: SigningKey(name.encode().ljust(32)) for name in ["one", "other"]}
 AUDITORS = {name: Auditor(name, bytes(key.verify_key)) for name, key in KEYS.items()}
@@ -42,10 +43,10 @@ NOW, LATEST = client_world.hour(6), max(WORLD.epochs)
 class Room:
     """An auditor's folder and key, in which the command runs or an `Audit`."""
 
-    def __init__(self, folder: Path, name: str = "one"):
-        self.home, self.name, self.folder = folder, name, folder / "audit"
+    def __init__(self, folder: Path, name: str = "one", policy: Policy = POLICY):
+        self.home, self.name, self.folder, self.policy = folder, name, folder / "audit", policy
         self.folder.mkdir(parents=True)
-        (folder / "policy").write_bytes(bytes(POLICY))
+        (folder / "policy").write_bytes(bytes(policy))
         (folder / "key").write_bytes(bytes(KEYS[name]))
 
     def words(self, service: str, *more: str) -> list[str]:
@@ -56,7 +57,7 @@ class Room:
         return main(self.words(service, "--once", *more))
 
     def opened(self) -> Audit:
-        return Audit(self.folder, POLICY, self.name, KEYS[self.name], self.home / "key.head")
+        return Audit(self.folder, self.policy, self.name, KEYS[self.name], self.home / "key.head")
 
     def read(self, file: str) -> bytes:
         path = self.folder / file
@@ -68,7 +69,7 @@ class Room:
 
     @property
     def head(self) -> Optional[Head]:
-        return read_note(self.read("note")).head(POLICY) if self.read("note") else None
+        return read_note(self.read("note")).head(self.policy) if self.read("note") else None
 
     def metric(self, name: str) -> float:
         rows = dict(it.split() for it in self.read("metrics").decode().splitlines())
@@ -121,6 +122,7 @@ def test_equivocation(room: Room, kind: str, monkeypatch: pytest.MonkeyPatch) ->
         mine, other = (bytes.fromhex(it) for it in room.alarm["evidence"])
         assert evidence.kind(mine, other) == "overlap" and mine in WORLD.entries() and other in fork.entries()
         assert room.alarm["why"] == "EQUIVOCATION" and room.alarm["source"] == source.url and room.metric("alarm") == 1
+        assert is_convicted(room), "anyone can decide that by the policy document and the alarm"
         alarm = room.read("alarm")
         source.entries = WORLD.entries()
         monkeypatch.setattr(time, "time", lambda: NOW + 5)
@@ -130,6 +132,14 @@ def test_equivocation(room: Room, kind: str, monkeypatch: pytest.MonkeyPatch) ->
             FORKS["the last entry"][6] if kind != "the last entry" else FORKS["an earlier entry"][6],
         ]
         assert room.once(source.url) == 1 and (room.read("note"), room.read("alarm")) == (note, alarm), "the first one tells most"
+
+
+def is_convicted(room: Room) -> bool:
+    """Whether the alarm convicts the directory for the second implementation."""
+    words = [sys.executable, str(TOP / "cases/second/convicts"), str(room.home / "policy")]
+    status = subprocess.run(words, input=room.read("alarm"), stdout=subprocess.DEVNULL).returncode
+    assert status == (0 if room.alarm["kind"] else 1)
+    return status == 0
 
 
 def test_signed_but_wrong(room: Room) -> None:
@@ -142,6 +152,7 @@ def test_signed_but_wrong(room: Room) -> None:
         other = Room(room.home / str(number))
         with Source(entries) as source:
             assert other.once(source.url) == 1 and (other.alarm["why"], len(other.alarm["evidence"])) == (why, count)
+            assert is_convicted(other) is (count == 2)
             assert other.read("entries") == b"".join(entries[:-1]), "what was accepted before is stored"
 
 

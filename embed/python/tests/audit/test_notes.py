@@ -16,9 +16,10 @@ pytest.importorskip("nacl.signing")
 
 import client_world
 import curve
+from endings import SIGNED, is_cosigned
 from nacl.signing import SigningKey
 from coniks import Head, Policy, notes
-from coniks.notes import Auditor, BadNote, Note, cosign, is_agreed, quorum, read_note, text_of
+from coniks.notes import Auditor, BadNote, Note, cosign, is_agreed, quorum, read_note, read_succession, text_of
 
 TOP = Path(__file__).resolve().parents[4]
 POLICY = Policy.read(client_world.POLICY.encode())
@@ -92,6 +93,24 @@ def test_example_of_formats() -> None:
     assert note.times([auditor]) == {"audit.example.org": 1767230000} and note.text.split("\n")[1] == "2"
 
 
+def test_example_of_an_end() -> None:
+    """The example of a cosigned succession in docs/FORMATS.md has valid signatures for the second implementation, and the same is made
+    from its text."""
+    text = (TOP / "docs/FORMATS.md").read_text("utf-8").partition("## Heads of auditors")[2].partition("\n## ")[0]
+    shown = re.findall(r"(?:^    .*\n)+\n(?:^    .*\n)+", text, re.M)[1].replace("\n    ", "\n")[4:].encode()
+    succession, note = read_succession(shown)
+    front, _, signature = bytes(succession).partition(b"signature ")
+    successor = bytes.fromhex("ec172b93ad5e563bf4932c70e1245034c35467ef2efd4d64ebf819683467e2bf")
+    assert curve.is_signed(successor, front, bytes.fromhex(signature.decode()))
+    auditor = Auditor.read(re.findall("Its verifier key is `(.*)`", text)[0])
+    assert is_cosigned(shown, bytes(succession), auditor.key, 1767232800) and (succession.last.epoch, succession.first.epoch) == (
+        2,
+        2,
+    )
+    secret = SigningKey(bytes.fromhex("c5aa8df43f9f837bedb7442f31dcb7b166d38535076f094b85ce3a2e0b4458f7"))
+    assert note.lines == (cosign(auditor.name, secret, note.text, 1767232800),) and bytes(note) == shown
+
+
 def test_keys() -> None:
     text = str(AUDITORS[0])
     assert Auditor.read(text) == AUDITORS[0] and text.count("+") >= 2
@@ -131,6 +150,24 @@ def test_altered_notes() -> None:
         except BadNote:
             continue
         assert changed == whole or len(note.times(AUDITORS)) < 3, changed
+
+
+def test_successions() -> None:
+    """The succession that a service serves as a text and an auditor as a note is read by one call. Nothing is verified."""
+    text, note = SIGNED.decode(), Note(SIGNED.decode(), (cosign(AUDITORS[0].name, KEYS[0], SIGNED.decode(), 1000),))
+    found, alone = read_succession(SIGNED)
+    assert (bytes(found), alone) == (SIGNED, Note(text, ())) and alone.times(AUDITORS) == {}
+    assert read_succession(bytes(note)) == (found, note) and note.times(AUDITORS) == {AUDITORS[0].name: 1000}
+    assert is_cosigned(bytes(note), SIGNED, AUDITORS[0].key, 1000)
+    head = cosigned(0)
+    assert Note(text, head.lines).times(AUDITORS) == {} == Note(head.text, note.lines).times(AUDITORS)
+    lines = SIGNED.split(b"\n")
+    wrong = [SIGNED[:-1], SIGNED + b"\n", bytes(note)[:-1], bytes(head), b"", b"\n\n", b"\xff", SIGNED.replace(b"\n", b"\r\n")]
+    wrong += [b"\n".join(lines[:-2] + [b""]), b"\n".join(lines[:-2] + [b""]) + bytes(note)[len(SIGNED) :], SIGNED.upper()]
+    wrong += [SIGNED.replace(b"last-epoch 6", it) for it in (b"last-epoch 0", b"last-epoch 06", b"last-epoch 18446744073709551616")]
+    for document in wrong:
+        with pytest.raises(BadNote):
+            read_succession(document)
 
 
 def test_quorum() -> None:

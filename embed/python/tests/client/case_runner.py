@@ -9,6 +9,7 @@ from typing import Any, Callable, Iterator, Optional
 
 import coniks
 from coniks.client import Cause, Client, Found, Refusal, Reported, Trust, Watched
+from coniks.succession import Succession
 
 
 TOP = Path(__file__).resolve().parents[4]
@@ -140,6 +141,24 @@ def reported(client: Client) -> Answer:
     return {"report": [it.what.value, it.first][: 1 if it.first == 0 else 2]}
 
 
+class Run:
+    """The client of a case, which is another one once it went on in another directory."""
+
+    def __init__(self, client: Client):
+        self.client = client
+
+    def step(self, step: Answer) -> Answer:
+        if step["do"] != "succeed":
+            return CALLS[step["do"]](self.client, step)
+        policy, succession = coniks.Policy.read(step["policy"].encode()), Succession.read(step["succession"].encode())
+        limits = {"max_age": step.get("max_age"), "skew": step.get("skew", 300), "trust": trust_of(step)}
+        before = self.client.state
+        succeeded = self.client.succeed(succession, policy, bytes.fromhex(step["entry"]), **limits)
+        assert self.client.state == before, "the client of the ended policy stays as it is"
+        self.client = succeeded.client
+        return {"void": [coniks.Body.of_entry(it).epoch for it in succeeded.void]}
+
+
 CALLS: dict[str, Callable[[Client, Answer], Answer]] = {
     "feed": lambda client, step: fed(client, [bytes.fromhex(it) for it in step["entries"]]),
     "catch up": lambda client, step: fed(client, bytes.fromhex(step["bytes"])),
@@ -175,7 +194,7 @@ def outcome(call: Callable[[], Answer], client: Optional[Client]) -> Answer:
 
 
 def own_evidence(error: Refusal) -> Optional[list[Any]]:
-    """The evidence of a client that has no entry."""
+    """The evidence that an entry is by itself."""
     return [KINDS[error.evidence.kind], None] if error.evidence else None
 
 
@@ -192,8 +211,9 @@ def verdicts(case: Answer) -> Answer:
     answer = outcome(begin, None)
     if not made:
         return {"begin": answer, "steps": [], "state": None}
-    client, answers = made[0], []
+    run, answers = Run(made[0]), []
     for step in case["steps"]:
         clock.now = step.get("now", clock.now)
-        answers.append(outcome(lambda: CALLS[step["do"]](client, step), client))
-    return {"begin": answer, "steps": answers, "state": hashlib.sha256(client.state).hexdigest()}
+        # What convicts at a succession is an entry of the next directory alone.
+        answers.append(outcome(lambda: run.step(step), None if step["do"] == "succeed" else run.client))
+    return {"begin": answer, "steps": answers, "state": hashlib.sha256(run.client.state).hexdigest()}

@@ -13,7 +13,7 @@ from coniks.client import Client
 if TYPE_CHECKING:
     from directories import Directory
     from people import Auditing, Clock, Person
-    from verdict_runs import Room
+    from rooms import Room
 
 
 @pytest.fixture(autouse=True)
@@ -73,7 +73,7 @@ def room(
 ) -> Iterator[Room]:
     """A client that has not begun, with its directory, its auditors and its time."""
     from people import Person
-    from verdict_runs import Room
+    from rooms import Room
 
     it = Room(Person(tmp_path, capsys), directory, auditors, clock, monkeypatch)
     yield it

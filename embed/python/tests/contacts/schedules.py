@@ -103,7 +103,7 @@ def is_own(it: Transcript, world: World, line: Mapping[str, Any], run: Run) -> b
 
 
 def shown_key(value: bytes) -> str:
-    return (value[144:] if value.startswith(b"vouched1") else value).decode()
+    return (value[160:] if value.startswith(b"vouched1") else value).decode()
 
 
 class Service(Directory):

@@ -31,7 +31,7 @@ def test_quorum(tmp_path: Path, capsys: pytest.CaptureFixture[str], directory: D
     ]
     for spoil in spoiled:
         spoil(auditors[1])
-        for words in [("compare",), ("lookup", "alice"), ("verify", "alice", "key of alice")]:
+        for words in [("compare",), ("lookup", "alice"), ("verify", "alice", "--key", "key of alice")]:
             status, lines = it.run(*words)
             assert status == 3 and (lines[-1]["agreeing"], lines[-1]["needed"]) == (2, 3), (words, lines)
     assert not it.stored()["found"]
@@ -119,7 +119,7 @@ def test_without_auditors(person: Person) -> None:
     """Nothing is status 0 for someone who has neither auditors nor chosen to do without them."""
     assert person.run("lookup", "alice")[0] == 0
     StateFile(person.state).write({**person.stored(), "alone": False})
-    for words in [("lookup", "alice"), ("verify", "alice", "key of alice"), ("compare",)]:
+    for words in [("lookup", "alice"), ("verify", "alice", "--key", "key of alice"), ("compare",)]:
         status, lines = person.run(*words)
         assert status == 3 and "no auditor is named" in lines[-1]["text"]
     assert person.run("set", "--without-auditors")[0] == 0 and person.run("lookup", "alice")[0] == 0

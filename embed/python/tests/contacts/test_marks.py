@@ -15,7 +15,7 @@ pytest.importorskip("nacl.signing")
 import client_world
 from people import AUDITORS, KEYS, POLICY, Auditing, Person
 from test_contacts import interrupted
-from verdict_runs import Room
+from rooms import Room
 from coniks import Head
 from coniks._client_state import StateFile
 from coniks.notes import Note, cosign, text_of

@@ -32,7 +32,7 @@ def _quick(monkeypatch: pytest.MonkeyPatch) -> None:
 def drawn(schedule: Schedule, number: int) -> tuple[int, list[str]]:
     """Who runs a command, and which. The first is the user, who has a name, and the second is a friend."""
     user = [["watch"], ["watch"], ["register", OWN, f"key {number // 4}"], ["lookup", OWN], ["lookup", "alice"]]
-    friend = [["lookup", it] for it in CONTACTS] + [["verify", "alice", "key of alice"], ["compare"]]
+    friend = [["lookup", it] for it in CONTACTS] + [["verify", "alice", "--key", "key of alice"], ["compare"]]
     who = schedule.draw.randrange(2)
     return who, schedule.draw.choice([user, friend][who])
 

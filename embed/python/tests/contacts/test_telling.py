@@ -12,11 +12,15 @@ import pytest
 
 pytest.importorskip("nacl.signing")
 
+import ending_runs
+import moving_runs
+import verdict_runs
 from people import FORKS, WORLD
-from verdict_runs import RUNS, Room
+from rooms import Room
 from coniks import _telling, contacts
 from coniks._telling import Telling, Verdict
 
+RUNS = {**verdict_runs.RUNS, **moving_runs.RUNS, **ending_runs.RUNS}
 # Verdicts that print nothing, with their statuses: all is well, an interrupt, and a reader that went away. `test_contacts.py` has runs of
 # the latter two.
 SILENT = {"AUDITED": 0, "INTERRUPTED": 130, "UNREAD": 3}
@@ -82,8 +86,20 @@ def test_each_verdict() -> None:
 
 # The modules of both programs beside the table, and their parts whose texts are of the command line.
 SOURCES = Path(_telling.__file__).parent
-MODULES = ["contacts", "_person", "_own_names", "_confirming", "_client_state", "_http", "audit", "commands"]
-OF_COMMAND_LINES = {"_COMMANDS", "parsed", "name_of", "key_of", "url_of", "address_of"}
+MODULES = [
+    "contacts",
+    "_moving",
+    "_going_on",
+    "_person",
+    "_own_names",
+    "_confirming",
+    "_client_state",
+    "_http",
+    "audit",
+    "_ending",
+    "commands",
+]
+OF_COMMAND_LINES = {"_COMMANDS", "parsed", "name_of", "key_of", "url_of", "epochs_of", "wanted_of", "address_of"}
 
 
 def name_of(part: ast.stmt) -> str:

@@ -4,257 +4,46 @@ page. In a sentence `SERVICE`, `STATE` and `ROOM` are the service, the state's f
 from __future__ import annotations
 
 import hashlib
-from dataclasses import dataclass
-from typing import Any, Callable, Mapping, Optional, Sequence
 
-import client_world
-import pytest
 from client_world import hour
-from directories import Directory, Reply, vouched_world
-from people import AUDITORS, FORKS, KEYS, POLICY, WORLD, Auditing, Clock, Person
-from coniks import Head, Policy, _http, _person
-from coniks._client_state import StateFile
-from coniks.notes import Auditor, Note, cosign, text_of
-from coniks.trust import Trust
-from coniks.vouching import Place, first, following
-
-NOBODY, FEW = ", which no auditor confirms", ", which too few of your auditors confirm"
-DAVE = Place(POLICY.digest, "dave")
-RECORD = first(DAVE, KEYS["one"], b"k")
-# A directory that promises proofs for two periods, and then an epoch can no longer be verified.
-LIMITED = client_world.policy_text(stored=7200)
-
-
-@dataclass
-class Room:
-    """A client with its directory, its auditors and its time. It has begun without auditors unless `audited` is called."""
-
-    person: Person
-    directory: Directory
-    auditors: list[Auditing]
-    clock: Clock
-    patch: pytest.MonkeyPatch
-    # What another run has.
-    locked: Optional[StateFile] = None
-
-    def begin(self) -> None:
-        assert self.person.begin(self.directory) == 0
-
-    def audited(self, *named: tuple[str, str]) -> None:
-        """Begins anew, with two auditors."""
-        self.person.state.unlink(missing_ok=True)
-        self.person.begin(self.directory, *(named or [it.pair for it in self.auditors[:2]]))
-
-    def write(self, **members: Any) -> None:
-        """Changes members of the state."""
-        StateFile(self.person.state).write({**self.person.stored(), **members})
-
-    def lie(self, path: str, body: bytes, status: int = 200) -> None:
-        self.directory.lies[path] = lambda _: Reply(body, status)
-
-    def run(self, *words: str) -> None:
-        self.person.run(*words)
-
-    def own(self) -> None:
-        """Registers a name."""
-        assert self.person.run("register", "dave", "key one")[0] == 0
-
-    def missing(self) -> None:
-        """A name of which the service shows nothing at epoch 4."""
-        self.own()
-        self.directory.commit(4)
-        self.directory.commit(5)
-        self.lie("/v1/history", b"", 503)
-
-    def changed(self) -> None:
-        """A name whose key is another one at epoch 4, and what its owner registered at epoch 5."""
-        self.own()
-        record = self.directory.world.epochs[3].names[client_world.index("dave")][2]
-        self.directory.commit(4, dave=b"key of mallory")
-        self.directory.commit(5, dave=record)
-
-    def lost(self) -> None:
-        """A name whose epochs 4 to 6 can no longer be verified, with auditors that confirm epoch 8."""
-        policy, directory = Policy.read(LIMITED.encode()), self.directory
-        (self.person.room / "policy").write_text(LIMITED)
-        directory.policy = LIMITED
-        directory.renew()
-        self.confirm(policy, 2)
-        self.audited(*[(f"https://{it}.example", str(AUDITORS[it])) for it in ("one", "two")])
-        self.own()
-        directory.batches += [(epoch, {}) for epoch in range(4, 9)]
-        directory.renew()
-        self.directory.lies["/v1/history"] = lambda _: Reply(directory.world.history("dave", 7, 8))
-        self.clock.seconds = hour(9)
-        self.confirm(policy, 8)
-
-    def confirm(self, policy: Policy, epoch: int) -> None:
-        """The service carries a note of both auditors."""
-        text = text_of(policy, Head(epoch, self.directory.world.link(epoch)))
-        self.directory.note = bytes(Note(text, tuple(cosign(name, KEYS[name], text, self.clock()) for name in ("one", "two"))))
-
-    def record(self) -> None:
-        """A contact's first record is accepted."""
-        self.directory.commit(3, dave=RECORD)
-        assert self.person.run("lookup", "dave")[0] == 0
-
-    def fork(self) -> None:
-        self.directory.world = FORKS[0]
-
-    def head(self, **more: Any) -> None:
-        """The second auditor cosigns something else."""
-        self.audited()
-        self.auditors[1].sign(2, **more)
-
-
-@dataclass(frozen=True)
-class Run:
-    """The status of a run, a sentence and the members of JSON, the command, what is prepared, and the status of the line if that is
-    beside others."""
-
-    status: int
-    text: str
-    members: Mapping[str, Any]
-    words: Sequence[str]
-    prepare: Callable[[Room], object] = Room.begin
-    line: Optional[int] = None
-
-
-def key_of(
-    name: str, key: Optional[str], before: Optional[str] = None, change: Optional[str] = None, epoch: int = 2
-) -> dict[str, Any]:
-    return {"name": name, "epoch": epoch, "key": key, "before": before, "change": change}
-
-
-def made(*calls: Callable[[Room], object]) -> Callable[[Room], object]:
-    """Makes calls."""
-
-    def making(room: Room) -> None:
-        for it in calls:
-            it(room)
-
-    return making
-
-
-def after(*calls: Callable[[Room], object]) -> Callable[[Room], object]:
-    """Begins, and makes calls."""
-    return made(Room.begin, *calls)
-
-
-def words(*given: str) -> Callable[[Room], object]:
-    return lambda room: room.run(*given)
-
-
-def commit(epoch: int, **keys: bytes) -> Callable[[Room], object]:
-    return lambda room: room.directory.commit(epoch, **keys)
-
-
-def lie(path: str, body: bytes, status: int = 200) -> Callable[[Room], object]:
-    return lambda room: room.lie(path, body, status)
-
-
-def state(**members: Any) -> Callable[[Room], object]:
-    return lambda room: room.write(**members)
-
-
-def at(seconds: int) -> Callable[[Room], object]:
-    return lambda room: setattr(room.clock, "seconds", seconds)
-
-
-def waiting(room: Room) -> None:
-    room.directory.commits = False
-
-
-def refusing(room: Room) -> None:
-    room.directory.refusal = "no"
-
-
-def gone(room: Room) -> None:
-    """The entry of epoch 4 is of a directory that has removed the name."""
-    room.record()
-    directory, removed = room.directory, vouched_world([(1, {}), (2, {}), (4, {})])
-    body = removed[4][:9] + (3).to_bytes(8, "big") + removed[4][17:49] + directory.world.link(3) + removed[4][81:145]
-    entry = client_world.signed(body)
-    room.clock.seconds = hour(4)
-    pages = {"2": directory.world[3] + entry, "3": entry, "4": b""}
-    directory.lies["/v1/entries"] = lambda query: Reply(pages[query["after"]])
-    directory.lies["/v1/lookup"] = lambda _: Reply(removed.reply("dave", 4, entry=entry))
-
-
-def overdue(room: Room) -> None:
-    room.missing()
-    room.clock.seconds = hour(5, 10)
-    room.run("watch")
-    room.clock.seconds += 3601
-
-
-def signed_again(room: Room) -> None:
-    """The service goes on over another signature than the auditors have."""
-    room.audited()
-    room.directory.commit(3)
-    room.directory.world.sign_again(2)
-
-
-def hidden(room: Room) -> None:
-    room.audited()
-    for it in room.auditors[:2]:
-        it.commit(3)
-        it.sign(3)
-
-
-def old(room: Room) -> None:
-    room.clock.seconds = hour(6, 1)
-    room.head(seconds=hour(6, 1))
-
-
-def unfounded(room: Room) -> None:
-    room.head(link=bytes(32))
-    room.auditors[1].lies["/v1/entries"] = lambda _: Reply(b"", 503)
-
-
-def other_key(room: Room) -> None:
-    room.audited(room.auditors[0].pair, (room.auditors[1].url, str(Auditor("two", bytes(KEYS["three"].verify_key)))))
-
-
-def trust_file(policy: bytes) -> Callable[[Room], object]:
-    text = bytes(Trust(policy, (AUDITORS["one"], AUDITORS["two"]), 0))
-    return lambda room: (room.person.room / "trust").write_bytes(text)
-
-
-def file(text: bytes) -> Callable[[Room], object]:
-    return lambda room: room.person.state.write_bytes(text)
-
-
-def older_version(room: Room) -> None:
-    room.person.state.write_bytes(room.person.state.read_bytes().replace(b"coniks-client 3 ", b"coniks-client 2 "))
-
-
-def taken(room: Room) -> None:
-    room.locked = StateFile(room.person.state)
-
-
-def endless(room: Room) -> None:
-    """A service that sends an entry at a time, of which two are taken at once."""
-    room.patch.setattr(_http, "PAGES", 2)
-    for epoch in (3, 4, 5):
-        room.directory.commit(epoch)
-    world = room.directory.world
-    room.directory.lies["/v1/entries"] = lambda query: Reply(
-        b"".join([it for epoch, it in ((e, world[e]) for e in world.epochs) if epoch > int(query["after"])][:1])
-    )
-
-
-def shown_at(name: str, *epochs: int) -> Callable[[Room], list[str]]:
-    """The replies for a name, as evidence has them."""
-    return lambda room: [room.directory.world.reply(name, it).hex() for it in epochs]
-
-
-def faulty(room: Room) -> None:
-    def raising(*_: object) -> None:
-        raise AssertionError("a fault")
-
-    room.patch.setattr(_person, "answered", raising)
-
+from people import AUDITORS, FORKS, KEYS, POLICY, WORLD
+from rooms import (
+    ANNOUNCED,
+    DAVE,
+    FEW,
+    NOBODY,
+    RECORD,
+    RESET,
+    RESETTABLE,
+    TIME,
+    Room,
+    Run,
+    after,
+    at,
+    commit,
+    endless,
+    faulty,
+    file,
+    gone,
+    hidden,
+    key_of,
+    lie,
+    made,
+    old,
+    older_version,
+    other_key,
+    overdue,
+    refusing,
+    shown_at,
+    signed_again,
+    state,
+    taken,
+    trust_file,
+    unfounded,
+    waiting,
+    words,
+)
+from coniks.vouching import following
 
 TEXT = bytes(POLICY).decode()
 LATER = "name at least two auditors, or give --without-auditors: then nobody notices another chain"
@@ -265,6 +54,9 @@ FINGERPRINT = hashlib.sha256(
 ).hexdigest()
 SHOWN = " ".join(FINGERPRINT[it : it + 8] for it in range(0, 64, 8))
 BEGIN = ["begin", "--state", "ROOM/other", "--service", "SERVICE", "--policy", "ROOM/policy"]
+# By the definition of docs/FORMATS.md, of a key without a record.
+DIGEST = hashlib.sha512(b"fingerprint coniks-1\n\x05alice" + bytes(32) + b"key of alice").digest()
+OF_ALICE = " ".join(f"{int.from_bytes(DIGEST[at : at + 5], 'big') % 10**5:05}" for at in range(0, 40, 5))
 LACKS = "the service shows no proof for epoch 4"
 
 RUNS = {
@@ -272,7 +64,7 @@ RUNS = {
         0,
         f'"alice" has the key "key of alice" (epoch 2{NOBODY})',
         key_of("alice", "key of alice"),
-        ["verify", "alice", "key of alice"],
+        ["verify", "alice", "--key", "key of alice"],
     ),
     "KEY_UNCONFIRMED": Run(
         3,
@@ -283,16 +75,16 @@ RUNS = {
     ),
     "KEY_VOUCHED": Run(
         0,
-        f'"dave" has the key "l" in place of "k", and its owner signed the change. You have not verified it yet (epoch 4{NOBODY})',
+        f'"dave" has the key "l" in place of "k", and the change was signed with its owner\'s secret key. You have not verified it yet (epoch 4{NOBODY})',
         key_of("dave", "l", "k", "vouched", 4),
         ["lookup", "dave"],
         after(Room.record, commit(4, dave=following(DAVE, KEYS["one"], RECORD, b"l"))),
     ),
     "KEY_VOUCHED_UNCONFIRMED": Run(
         3,
-        f'"dave" has the key "l" in place of "k", and its owner signed the change (epoch 4{NOBODY})',
+        f'"dave" has the key "l" in place of "k", and the change was signed with its owner\'s secret key (epoch 4{NOBODY})',
         key_of("dave", "l", "k", "vouched", 4),
-        ["verify", "dave", "l"],
+        ["verify", "dave", "--key", "l"],
         after(Room.record, commit(4, dave=following(DAVE, KEYS["one"], RECORD, b"l")), state(alone=False)),
     ),
     "KEY_UNKNOWN": Run(
@@ -305,7 +97,7 @@ RUNS = {
     ),
     "KEY_UNVOUCHED": Run(
         1,
-        f'"dave" has the key "l", and the owner of the key before, "k", did not sign the change: don\'t use it (epoch 4{NOBODY})',
+        f'"dave" has the key "l", and the change was not signed with the secret key of the one before, "k": don\'t use it (epoch 4{NOBODY})',
         key_of("dave", "l", "k", "unvouched", 4),
         ["lookup", "dave"],
         after(Room.record, commit(4, dave=b"l")),
@@ -314,7 +106,7 @@ RUNS = {
         1,
         f'"alice" has another key, "key of alice": don\'t use it (epoch 2{NOBODY})',
         key_of("alice", "key of alice"),
-        ["verify", "alice", "key of mallory"],
+        ["verify", "alice", "--key", "key of mallory"],
     ),
     "KEY_NOT_YOURS": Run(
         1,
@@ -330,8 +122,120 @@ RUNS = {
         ["lookup", "dave"],
         after(gone),
     ),
-    "KEY_LACKING": Run(1, f'"nobody" has no key (epoch 2{NOBODY})', key_of("nobody", None), ["verify", "nobody", "k"]),
+    "KEY_LACKING": Run(1, f'"nobody" has no key (epoch 2{NOBODY})', key_of("nobody", None), ["verify", "nobody", "--key", "k"]),
     "KEY_ABSENT": Run(4, f'"nobody" has no key (epoch 2{NOBODY})', key_of("nobody", None), ["lookup", "nobody"]),
+    "KEY_RESET": Run(
+        1,
+        '"dave" was reset after 1 day of notice, and has the key "m" in place of "k": verify it by another channel'
+        f" (epoch 28{NOBODY})",
+        key_of("dave", "m", "k", "reset", 28),
+        ["lookup", "dave"],
+        after(commit(3, dave=RESETTABLE), words("lookup", "dave"), commit(4, dave=ANNOUNCED), commit(28, dave=RESET)),
+    ),
+    "KEY_CLOSED": Run(
+        4,
+        f'"dave" was closed by its owner (epoch 4{NOBODY})',
+        key_of("dave", None, "k", "vouched", 4),
+        ["lookup", "dave"],
+        after(Room.record, commit(4, dave=following(DAVE, KEYS["one"], RECORD, b""))),
+    ),
+    "KEY_ANNOUNCED": Run(
+        0,
+        f'a reset of "dave" is announced: from epoch 28, {TIME}, on somebody else can have it, unless its owner takes that back',
+        {"name": "dave", "effect": 28},
+        ["lookup", "dave"],
+        after(commit(3, dave=RESETTABLE), words("lookup", "dave"), commit(4, dave=ANNOUNCED)),
+    ),
+    "FINGERPRINT": Run(
+        0,
+        f'"alice" has the fingerprint {OF_ALICE} (epoch 2{NOBODY})',
+        {"name": "alice", "epoch": 2, "fingerprint": OF_ALICE},
+        ["fingerprint", "alice"],
+    ),
+    "FINGERPRINT_UNCONFIRMED": Run(
+        3,
+        f'"alice" has the fingerprint {OF_ALICE} (epoch 2{NOBODY})',
+        {"name": "alice", "epoch": 2, "fingerprint": OF_ALICE},
+        ["fingerprint", "alice"],
+        after(state(alone=False)),
+    ),
+    "OWN_CLOSED": Run(
+        0,
+        '"dave" is closed, by you (epoch 4)',
+        {"name": "dave", "epochs": [4]},
+        ["close", "dave"],
+        after(Room.own),
+    ),
+    "OWN_CLOSED_EVER": Run(
+        3,
+        '"dave" was closed by you, and has no key any more: register another name',
+        {},
+        ["register", "dave", "key two"],
+        after(Room.own, words("close", "dave")),
+    ),
+    "OWN_ANNOUNCED": Run(
+        1,
+        'a reset of "dave" is announced: from epoch 175, 2026-01-08 06:00 UTC, on somebody else can have it. If you have not lost its'
+        " secret key, run coniks-client keep",
+        {"name": "dave", "effect": 175, "voucher": bytes(KEYS["two"].verify_key).hex()},
+        ["watch"],
+        after(Room.announced),
+    ),
+    "OWN_UNANNOUNCED": Run(
+        0, 'no reset of "dave" is announced, so there is nothing to take back', {}, ["keep", "dave"], after(Room.own)
+    ),
+    "OWN_TWIN": Run(
+        1,
+        '"dave" has the key "key two" (epoch 4), signed with your secret key by another device. If that is yours, run coniks-client adopt,'
+        " and change the name on one device only. Else your secret key is stolen: tell all who use the name",
+        {"name": "dave", "epochs": [4], "key": "key two"},
+        ["watch"],
+        after(Room.twin),
+    ),
+    "OWN_ADOPTED": Run(
+        0,
+        '"dave": this state goes on from the record with the key "key two" (epoch 4)',
+        {"name": "dave", "epoch": 4, "key": "key two"},
+        ["adopt", "dave"],
+        after(Room.twin),
+    ),
+    "OWN_NO_TWIN": Run(
+        3,
+        '"dave" shows no later record of your secret key, so there is nothing to adopt',
+        {},
+        ["adopt", "dave"],
+        after(Room.own),
+    ),
+    "OWN_VOUCHER": Run(
+        3,
+        lambda room: f'"dave" has no reset to you yet: give the voucher {room.voucher()} to the operator of the directory, who must know'
+        " that you are the owner",
+        {"name": "dave", "voucher": lambda room: room.voucher()},
+        ["reset", "dave", "key two"],
+        after(commit(3, dave=RESETTABLE)),
+    ),
+    "OWN_RESET_WAITS": Run(
+        3,
+        f'a reset of "dave" to you is announced: run the command again from epoch 28, {TIME}, on',
+        {"name": "dave", "effect": 28},
+        ["reset", "dave", "key two"],
+        after(Room.resetting),
+    ),
+    "OWN_KNOWN": Run(
+        3,
+        '"dave" is yours, and you have its secret key: change it by coniks-client register',
+        {},
+        ["reset", "dave", "key two"],
+        after(Room.own),
+    ),
+    "OWN_FREE": Run(3, '"erin" has no key: take it by coniks-client register', {}, ["reset", "erin", "k"]),
+    "OWN_NEVER": Run(
+        3,
+        '"dave" is never reset: its owner chose that, or vouches for nothing. Register another name',
+        {},
+        ["reset", "dave", "k"],
+        after(Room.record),
+    ),
     "OWN_SHOWN": Run(
         0,
         f'"dave" has your key "key one" (epoch 3{NOBODY})',
@@ -540,7 +444,8 @@ RUNS = {
     ),
     "FOUND_UNVOUCHED": Run(
         1,
-        '"dave": two replies convict the directory: the owner of the key in the first did not sign what the second shows',
+        '"dave": two replies convict the directory: the key in the second was not signed with the owner\'s secret key, and no notice of a reset'
+        " allows it",
         {"policy": TEXT, "kind": "unvouched", "evidence": shown_at("dave", 3, 4), "name": "dave"},
         ["evidence"],
         after(Room.record, commit(4, dave=b"l"), words("lookup", "dave")),
