@@ -12,7 +12,7 @@ from typing import Callable, Collection, Mapping, Optional
 
 from coniks import Policy
 from coniks.provider import Operation
-from coniks.vouching import Place, is_allowed
+from coniks.vouching import Place, Value, is_allowed
 
 LOG = logging.getLogger("service")
 # The most characters of a token.
@@ -22,12 +22,15 @@ _LONGEST_TOKEN = 1024
 @dataclass(frozen=True)
 class Request:
     """What someone asks for: an operation, with the name's present key, None if it has none; or to see epochs of a name that are
-    not recent, without an operation. `headers` are the request's."""
+    not recent, without an operation. `headers` are the request's. `epoch` is the one that has the operation at the earliest, and
+    `is_operators` whether it comes from `serve reset` and not from a request."""
 
     name: str
     operation: Optional[Operation]
     present: Optional[bytes]
     headers: Mapping[str, str]
+    epoch: int = 0
+    is_operators: bool = False
 
 
 # Returns whether that may be done. It is called in a thread, so it may wait.
@@ -35,8 +38,9 @@ Authorise = Callable[[Request], bool]
 
 
 class Vouched:
-    """Refuses each key that isn't a record of the name's owner, whoever asks, as a policy with `records vouched` promises
-    (`coniks.vouching`). Another function decides the rest. Raises ValueError for a policy without that line."""
+    """Refuses what may not follow a name's present key, whoever asks, as a policy with `records vouched` promises (`coniks.vouching`): each
+    key that isn't a record of the name's owner, or after a notice of the one whom it announces. Only the operator may announce a reset,
+    and take that back, and nothing else. Another function decides the rest. Raises ValueError for a policy without that line."""
 
     def __init__(self, policy: Policy, other: Authorise):
         if not policy.records_vouched:
@@ -44,8 +48,18 @@ class Vouched:
         self.policy, self._other = policy, other
 
     def __call__(self, request: Request) -> bool:
-        operation, place = request.operation, Place(self.policy.digest, request.name)
-        return (operation is None or is_allowed(place, request.present, operation.key)) and self._other(request)
+        operation, place = request.operation, Place.of(self.policy, request.name)
+        if operation is None:
+            return self._other(request)
+        if not is_allowed(place, request.present, operation.key, request.epoch):
+            return False
+        return is_notice(request.present, operation.key) is request.is_operators and (request.is_operators or self._other(request))
+
+
+def is_notice(present: Optional[bytes], key: bytes) -> bool:
+    """Whether bytes in the place of a name's present ones announce a reset, or take that back: their record is the present one."""
+    before, after = Value.read(present), Value.read(key)
+    return before is not None and after is not None and after.record == before.record
 
 
 def authoriser(policy: Policy, other: Authorise) -> Authorise:

@@ -1,6 +1,6 @@
 """Collects operations, and commits them each epoch, in their order. An operation is stored in the queue before its number is
 returned, and whoever asked gets a receipt once the log has its epoch. Each one is judged by the key that its name has at the epoch
-before its own."""
+before its own. What the operator announces is judged by the epoch of its batch too: its effect must be late enough."""
 
 from __future__ import annotations
 
@@ -30,32 +30,38 @@ MOST_WAITING = 4 * MOST
 _LOOKING = 2
 # The seconds until the clock is read again, and the most until a commit that failed is tried again.
 _PAUSE, _LONGEST_PAUSE = 0.3, 5
-_KINDS: dict[str, type[Operation]] = {"register": Register, "change": Change}
+# The kind of an operation that `serve reset` has stored is another one, so that no request can ask for it.
+OPERATORS = "announce"
+_KINDS: dict[str, type[Operation]] = {"register": Register, "change": Change, OPERATORS: Change}
 Result = TypeVar("Result")
 
 
 @dataclass(frozen=True)
 class Judged:
     """An operation, the headers of whoever asks for it, and the name's key at an epoch, by which it is judged; None if it had none.
-    The headers are not stored: an operation that is read from the queue has none."""
+    The headers are not stored: an operation that is read from the queue has none. `is_operators` is whether the operator has stored it.
+    """
 
     operation: Operation
     headers: Mapping[str, str]
     present: Optional[bytes]
     epoch: int
+    is_operators: bool = False
 
-    def is_allowed(self, authorise: Authorise) -> bool:
-        """Whether it may be done. It is called in a thread."""
-        return authorise(Request(self.operation.name, self.operation, self.present, self.headers))
+    def is_allowed(self, authorise: Authorise, epoch: int) -> bool:
+        """Whether it may be done at an epoch. It is called in a thread."""
+        it = self.operation
+        return authorise(Request(it.name, it, self.present, self.headers, epoch, self.is_operators))
 
     def row(self, number: str) -> Row:
         """What the queue stores of it."""
         it = self.operation
-        return Row(number, type(it).__name__.lower(), it.name, it.key, it.opening, self.present, self.epoch)
+        kind = OPERATORS if self.is_operators else type(it).__name__.lower()
+        return Row(number, kind, it.name, it.key, it.opening, self.present, self.epoch)
 
     @classmethod
     def of(cls, row: Row) -> Judged:
-        return cls(_KINDS[row.op](row.name, row.key, row.opening), {}, row.present, row.judged)
+        return cls(_KINDS[row.op](row.name, row.key, row.opening), {}, row.present, row.judged, row.op == OPERATORS)
 
 
 # The entry of the epoch that has an operation, once the log has that, or why it is refused. It is cancelled if the process ends before.
@@ -123,7 +129,8 @@ class Collector:
         async with self._looking:
             shown = await asyncio.to_thread(self.holder.directory.lookup, operation.name)
         judged = Judged(operation, headers, shown_key(shown), shown.epoch)
-        if not await asyncio.to_thread(judged.is_allowed, self.authorise):
+        earliest = max(shown.epoch + 1, self.holder.provider.epoch_now()) if self.holder.provider else shown.epoch + 1
+        if not await asyncio.to_thread(judged.is_allowed, self.authorise, earliest):
             raise self._forbidden()
         is_taken = judged.present is not None
         if isinstance(operation, Register) is is_taken:
@@ -131,7 +138,7 @@ class Collector:
         return judged
 
     def _forbidden(self) -> Problem:
-        unsigned = ", or the key is no record that the name's owner signed" * self.holder.keys.policy.records_vouched
+        unsigned = ", or the key is no record that may follow the present one" * self.holder.keys.policy.records_vouched
         return Problem(403, "Forbidden", f"the credentials do not allow this{unsigned}")
 
     async def collect(self, judged: Judged) -> Requested:
@@ -274,14 +281,22 @@ class Collector:
         return False
 
     async def _judge(self, provider: Provider, queue: Queue, epoch: int) -> None:
-        """Judges those of the batch again whose name may have another key since, and refuses those that aren't allowed any more."""
+        """Judges those of the batch again whose name may have another key since, and those of the operator. Refuses those that aren't
+        allowed any more."""
         latest = provider.latest().epoch
-        old = [it for it in self._batch.values() if it.judged.epoch < latest < epoch]
+        waiting = self._batch.values() if latest < epoch else ()
+        old = [it for it in waiting if it.judged.epoch < latest or it.judged.is_operators]
         for it, judged in zip(old, await self._run(again, provider, [it.judged for it in old], latest) if old else []):
-            if judged.present == it.judged.present or await self._run(judged.is_allowed, self.authorise):
+            is_same = judged.present == it.judged.present and not judged.is_operators
+            if is_same or await self._run(judged.is_allowed, self.authorise, epoch):
                 self._batch[it.operation.name] = replace(it, judged=judged)
-            else:
-                await self._refuse(queue, it.operation.name, self._forbidden())
+                continue
+            if judged.is_operators:
+                LOG.error(
+                    "reset refused",
+                    extra={"members": {"epoch": epoch, "why": "its effect is too early, or the record another one"}},
+                )
+            await self._refuse(queue, it.operation.name, self._forbidden())
 
     async def _refuse(self, queue: Queue, name: str, problem: Problem) -> None:
         """Refuses an operation of the batch. The queue drops it first: the batch that a start finds there is the one that is tried."""

@@ -9,7 +9,7 @@ import time
 from bisect import bisect_left, bisect_right
 from concurrent.futures import ThreadPoolExecutor
 from pathlib import Path
-from typing import Callable
+from typing import Callable, Optional
 from weakref import WeakValueDictionary
 
 from aiohttp import web
@@ -24,6 +24,7 @@ from holding import LOG, error_of, link_of
 from looking import Looker
 from observing import LINES, Metrics
 from outside import KeyFailed
+from past import Past
 from prometheus_client import CONTENT_TYPE_LATEST, generate_latest
 from problems import Problem, json_reply, key_of, members_of, name_of, number_of, query_of
 from queueing import QueueFailed
@@ -39,8 +40,10 @@ LONGEST_WAIT = 20
 _LOOKUP = "/v1/lookup"
 # The parameters of those routes that have some.
 _PARAMETERS = {
+    "/v1/policy": ["policy"],
     "/v1/note": ["auditor"],
-    "/v1/entries": ["after"],
+    "/v1/entries": ["after", "policy"],
+    "/v1/succession": ["policy"],
     _LOOKUP: ["name", "epoch"],
     "/v1/history": ["name", "first", "last"],
 }
@@ -66,6 +69,7 @@ class Endpoints:
             web.get(_LOOKUP, self.lookup),
             web.get("/", self.page),
             web.get("/v1/policy", self.policy),
+            web.get("/v1/succession", self.succession),
             web.get("/v1/head", self.head),
             web.get("/v1/note", self.note),
             web.get("/v1/entries", self.entries),
@@ -150,7 +154,23 @@ class Endpoints:
         return web.Response(text=text, content_type="text/html", headers=headers)
 
     async def policy(self, request: web.Request) -> web.Response:
-        return reply(bytes(self._holder.keys.policy), TEXT, "public, max-age=3600")
+        past = self._past_of(request)
+        return reply(past.policy if past else bytes(self._holder.keys.policy), TEXT, "public, max-age=3600")
+
+    def _past_of(self, request: web.Request) -> Optional[Past]:
+        """The directory before this one that a request names by its policy digest, None if it names this one or none. Raises `Problem`."""
+        digest, past = request["query"].get("policy"), self._holder.past
+        if digest is None or digest == self._holder.keys.policy.digest.hex():
+            return None
+        if digest not in past:
+            raise Problem(404, "UnknownPolicy", "this service has no directory of this policy")
+        return past[digest]
+
+    async def succession(self, request: web.Request) -> web.Response:
+        """The succession of a directory before this one, which never changes. This one has none: it goes on."""
+        if not (past := self._past_of(request)):
+            raise Problem(404, "NoSuccession", "this directory has not ended")
+        return reply(past.succession, TEXT, "public, max-age=3600")
 
     async def head(self, request: web.Request) -> web.Response:
         entry = self._holder.directory.chain()[-1]
@@ -165,7 +185,8 @@ class Endpoints:
         return reply(bytes(note), TEXT)
 
     async def entries(self, request: web.Request) -> web.Response:
-        after, chain = number_of(request["query"].get("after", "0"), "after"), self._holder.directory.chain()
+        past, after = self._past_of(request), number_of(request["query"].get("after", "0"), "after")
+        chain = past.entries if past else self._holder.directory.chain()
         start = bisect_right(chain, after, key=epoch_of)
         found = chain[start : start + PAGE]
         # A page that is full never changes: no entry comes between two others.

@@ -7,6 +7,7 @@ import logging
 import os
 import secrets
 import stat
+import sys
 import threading
 import time
 from contextlib import ExitStack
@@ -23,6 +24,7 @@ from keys import PublicKeys, is_signed
 from nacl.signing import SigningKey
 from outside import KeyFailed, Outside
 from queueing import Queue, in_file, in_postgres
+from past import check_open, read_past
 
 LOG = logging.getLogger("service")
 # How many names have their VRF proof kept, of some 500 bytes each.
@@ -44,8 +46,8 @@ class Keys:
     of a name is computed once, and kept while there is room."""
 
     def __init__(self, folder: Path, is_replica: bool = False, sources: Sources = Sources()):
-        self._vrf = b"" if sources.prover else _secret(folder / _VRF)
-        self._signer = None if is_replica or sources.signer else SigningKey(_secret(folder / _SIGNING))
+        self._vrf = b"" if sources.prover else secret_of(folder / _VRF)
+        self._signer = None if is_replica or sources.signer else SigningKey(secret_of(folder / _SIGNING))
         self.policy = policy = Policy.read((folder / _POLICY).read_bytes())
         if policy.vrf_key is None:
             raise ValueError(f"{folder / _POLICY} has no VRF, whose proofs the service sends: make a directory with one")
@@ -107,7 +109,7 @@ class Keys:
             raise KeyFailed(f"{prover} returned no proof of this name by the policy's VRF key: see which key it has") from None
 
 
-def _secret(path: Path) -> bytes:
+def secret_of(path: Path) -> bytes:
     """The 32 bytes of a key's file, which only its owner may read. A credential of systemd has an access control list for the user of the
     service, whose mask is shown as the rights of the group."""
     rights, key = stat.S_IMODE(path.stat().st_mode), path.read_bytes()
@@ -126,11 +128,34 @@ class Terms:
     epoch_period: int
     proofs_kept: Optional[int]
     records_vouched: bool = False
+    successor_key: Optional[bytes] = b""
 
 
-def make_keys(folder: Path, terms: Terms, sources: Sources = Sources()) -> None:
-    """Draws the keys that no other process has, and writes the policy. Raises `FileExistsError` if there is one of these files."""
-    signing, vrf = (secrets.token_bytes(32) for _ in range(2))
+# The bytes that an epoch without operations takes: in this process, in its two children, and in the two that replace these at a `compact`.
+EPOCH = 1800
+
+
+def kept_of(period: int, kept: Optional[int]) -> int:
+    """For how many seconds proofs are promised, if this machine has the memory for it. Raises ValueError."""
+    most = os.sysconf("SC_PAGE_SIZE") * os.sysconf("SC_PHYS_PAGES") // EPOCH * period
+    stored = min(most, 90 * 86400) if kept is None else kept
+    if not 0 <= stored <= most or not most:
+        raise ValueError(
+            f"--kept {stored} at --period {period} would stop for want of memory: this machine has {most // max(1, period)} times "
+            f"the {EPOCH} bytes of an epoch, so take --kept {most} or less, or a longer --period. Neither can be changed later"
+        )
+    size = stored // period * EPOCH // 10**6
+    print(
+        f"serve: the epochs whose proofs are promised take up to {size} MB of memory, and their operations come to that",
+        file=sys.stderr,
+    )
+    return stored
+
+
+def make_keys(folder: Path, terms: Terms, sources: Sources = Sources(), vrf: Optional[bytes] = None) -> Policy:
+    """Draws the keys that no other process has, but for the secret key of a VRF that is given, and writes the policy. Returns it. Raises
+    `FileExistsError` if there is one of these files."""
+    signing, vrf = secrets.token_bytes(32), vrf or secrets.token_bytes(32)
     signing_key, vrf_key = bytes(SigningKey(signing).verify_key), ecvrf.public_key(vrf)
     if sources.signer:
         signing_key = _public_key_of(sources.signer, "signing-key")
@@ -142,6 +167,7 @@ def make_keys(folder: Path, terms: Terms, sources: Sources = Sources()) -> None:
     for name, data, other in files:
         if other is None:
             _write(folder / name, data)
+    return policy
 
 
 def _public_key_of(source: Outside, command: str) -> bytes:
@@ -162,12 +188,19 @@ def _write(path: Path, data: bytes) -> None:
 @dataclass(frozen=True)
 class Places:
     """Where the log and the guard's record are, each a path; with `is_database` they are in PostgreSQL, and both are connection
-    strings. The queue is beside the log. `program` is the program `provider`."""
+    strings. The queue is beside the log. `program` is the program `provider`, and `past` the folder of the directories before this one.
+    """
 
     log: str
     guard: str
     program: str
     is_database: bool = False
+    past: Optional[Path] = None
+
+    def check_open(self) -> None:
+        """Raises ValueError if the directory has ended."""
+        if not self.is_database:
+            check_open(self.log)
 
     def open_log(self, create: bool = False) -> Any:
         kind: Any = FileLog
@@ -195,11 +228,16 @@ class Places:
 class Holder:
     """Keeps the directory open, which is a provider, or a replica in its place. All calls can be used from several threads."""
 
-    def __init__(self, places: Places, keys: Keys, is_replica: bool = False, create: bool = False):
-        self.keys = keys
+    def __init__(self, places: Places, keys: Keys, is_replica: bool = False, create: bool = False, nonce: Optional[bytes] = None):
+        """Opens the directory, or makes it, then with this nonce if one is given."""
+        self.keys, public = keys, keys.keys
+        places.check_open()
+        self.past = read_past(places.past) if places.past else {}
         if is_replica and not places.is_database:
             raise ValueError("a replica needs a log in PostgreSQL: pass --database")
-        settings = Settings(places.program, keys.index, keys.policy, vrf_public_key=keys.keys.vrf, verify=keys.verify, timeout=30)
+        settings = Settings(
+            places.program, keys.index, keys.policy, nonce, vrf_public_key=public.vrf, verify=keys.verify, timeout=30
+        )
         with ExitStack() as opened:
             self.log = log = opened.enter_context(places.open_log(create))
             # The directory, and what waits for it, if this process writes.
