@@ -30,7 +30,7 @@ PERIOD = {"--period 3600 --kept 7776000": "--period 2 --kept 6"}
 # How many blocks each section has that are run here.
 RUN = {
     "Install": 1,
-    "Make the directory": 3,
+    "Make the directory": 4,
     "Tokens": 2,
     "Compact": 1,
     "Back up and restore": 3,
@@ -40,7 +40,8 @@ RUN = {
     "Install an auditor": 2,
     "Add and retire an auditor": 4,
     "A lost record of the guard": 2,
-    "A user who lost the state": 2,
+    "A user has lost her secret key": 5,
+    "Go on in another directory": 4,
 }
 # test_service_operation.py has that.
 RUN_ELSEWHERE = {"Take over": 1}
@@ -95,8 +96,9 @@ def machine(checkout: Path, shared: Path, tmp_path_factory: pytest.TempPathFacto
     made = Machine(tmp_path_factory.mktemp("one") / "machine", checkout, shared)
     try:
         made.do(block("Install"))
-        made.do(block("Make the directory", 0, PERIOD))
-        made.do(block("Make the directory", 1))
+        successor = made.do(block("Make the directory", 1)).strip()
+        made.do(block("Make the directory", 0, {**PERIOD, "successor=none": f"successor={successor}"}))
+        made.do(block("Make the directory", 2))
         yield made
     finally:
         made.end()
@@ -143,7 +145,7 @@ def test_proxy(machine: Machine) -> None:
         pytest.skip("nginx is missing")
     certificate = "openssl req -x509 -newkey ec -pkeyopt ec_paramgen_curve:P-256 -nodes -days 1 -subj /CN=keys.example.com"
     machine.do(f"mkdir -p /etc/ssl/coniks; cd /etc/ssl/coniks; {certificate} -keyout privkey.pem -out fullchain.pem")
-    machine.do(block("Make the directory", 2))
+    machine.do(block("Make the directory", 3))
     requested = "curl -sk --resolve keys.example.com:443:127.0.0.1 -w '%{http_code}' -o /dev/null https://keys.example.com"
     assert [machine.do(f"{requested}{it}") for it in ("/v1/policy", "/v1/entries", "/metrics")] == ["200", "200", "404"]
 
@@ -368,7 +370,7 @@ def test_add_and_retire(machine: Machine, auditor: str, others: str, token: str)
 
 def test_lost_state(machine: Machine, user: str) -> None:
     """A backup goes on with the key that was changed after it. Without one the name's key is ended, and contacts refuse what follows."""
-    restore, end = blocks("A user who lost the state")
+    restore, _, _, _, end = blocks("A user has lost her secret key")
     token = machine.do(block("Tokens", 0, {"alice\\n": "carol\\n"})).strip()
     given = {"alice": "carol", "~/.coniks-client": "own"}
     begin = f"coniks-client begin {user} --without-auditors --state"
@@ -384,4 +386,65 @@ def test_lost_state(machine: Machine, user: str) -> None:
     assert 'has your key "the present key"' in client(machine, f"rm own; {restore}")
     assert "is taken" in client(machine, f"{begin} new --token token; coniks-client register --state new carol 'new key'", 1)
     machine.do(replaced(end, {"token=..": f"token={token}", "alice": "carol"}))
-    assert "did not sign the change: don't use it" in client(machine, "coniks-client lookup --state friend carol", 1)
+    assert "was not signed with the secret key of the one before" in client(machine, "coniks-client lookup --state friend carol", 1)
+
+
+def test_lost_secret(checkout: Path, shared: Path, tmp_path: Path) -> None:
+    """A directory that promises records resets a name to a new device after a notice, and takes a notice back."""
+    _, device, announce, withdraw, _ = blocks("A user has lost her secret key")
+    machine = Machine(tmp_path / "machine", checkout, shared)
+    try:
+        machine.do(block("Install"))
+        machine.do(block("Make the directory", 0, {"--period 3600 --kept 7776000": "--period 2 --kept 600 --vouched"}))
+        wait(machine)
+        token = machine.do(block("Tokens")).strip()
+        machine.do("useradd --create-home client; install -m 0644 -t /home/client /etc/coniks/keys/policy")
+        machine.do("ln -s /opt/zenithlamb/embed/python/bin/coniks-client /usr/local/bin/")
+        begin = f"coniks-client begin --service {SERVICE} --policy policy --without-auditors --token token --state"
+        client(machine, f"echo {token} > token; {begin} old; coniks-client register --state old --reset 4 alice 'first key'")
+        client(machine, f"{begin} friend; coniks-client lookup --state friend alice; {begin} ~/.coniks-client")
+        asked = client(machine, device, 3)
+        [voucher] = re.findall("give the voucher ([0-9a-f]{64}) to", asked)
+        for is_first in (True, False):
+            printed = machine.do(replaced(announce, {"voucher=..": f"voucher={voucher}"}))
+            assert f'a reset of "alice" to {voucher} is announced' in printed
+            until(lambda: b"notice-1" in lookup(machine, "alice"))
+            if is_first:
+                assert "is taken back" in machine.do(withdraw)
+                until(lambda: b"notice-1" not in lookup(machine, "alice"))
+        assert 'a reset of "alice" is announced' in client(machine, "coniks-client watch --state old", 1)
+        until(lambda: 'has your key "the new key"' in machine.run(f"export HOME=/home/client; cd; {device}", "client").stdout)
+        assert "was reset after 8 seconds of notice" in client(machine, "coniks-client lookup --state friend alice", 1)
+        assert machine.do("stat -c '%U %a' /var/lib/coniks/names.log.resets") == "coniks 600\n"
+        assert machine.do("find /var/lib/coniks ! -user coniks") == ""
+    finally:
+        machine.end()
+
+
+def test_go_on(machine: Machine, user: str, auditor: str, token: str) -> None:
+    """Another directory goes on with all names, and a client and an auditor follow. The old one can't be opened again."""
+    end, sign, take, follow = blocks("Go on in another directory")
+    client(machine, f"coniks-client begin {user} --without-auditors --go-on --state moving")
+    client(machine, "coniks-client lookup --state moving alice")
+    key = lookup(machine, "alice")[-5:]
+    machine.do(end)
+    machine.do(sign)
+    machine.do(take)
+    wait(machine)
+    said = client(machine, "coniks-client lookup --state moving alice")
+    assert "goes on from epoch" in said and '"alice" has the key' in said
+    assert lookup(machine, "alice").endswith(key) and operate(machine, "change", b"after", token) == "200"
+    assert machine.do("find /var/lib/coniks /var/lib/coniks-guard ! -user coniks") == ""
+    options = "--keys /root/keys.ended --log /var/lib/coniks/names.log --guard /var/lib/coniks-guard/names.guard"
+    opened = machine.run(f"/opt/zenithlamb/examples/service/serve run {options}")
+    assert opened.returncode == 1 and "has ended" in opened.stderr
+    digest = machine.do("sha256sum < /root/keys.ended/policy").split()[0]
+    shown = machine.do("cat /root/succession")
+    assert machine.do(f"curl -fsS '{SERVICE}/v1/succession?policy={digest}'") == shown
+    asked = f"curl -fs 'http://127.0.0.1:8081/v1/succession?policy={digest}'"
+    until(lambda: machine.run(asked).stdout.startswith(shown))
+    origin = machine.do("curl -fsS http://127.0.0.1:8081/v1/note | head -n 1")
+    machine.do("install -m 0600 /etc/coniks/keys/policy /root/policy")
+    machine.do(follow)
+    until(lambda: machine.run("curl -fs http://127.0.0.1:8081/v1/note | head -n 1").stdout not in ("", origin))
+    assert machine.do(asked).startswith(shown) and "audit.example.org" in machine.do(asked)

@@ -24,7 +24,7 @@ from authorising import Request, Tokens, Vouched, authoriser
 from collecting import Collector, shown_key
 from coniks import Policy, provider
 from coniks.provider import Register
-from coniks.vouching import Change, Place, first, following, judged
+from coniks.vouching import Change, Place, Span, first, following, judged
 from connections import Bounds
 from holders import made
 from nacl.signing import SigningKey
@@ -78,7 +78,9 @@ def test_life(people: list[Person], service: Running) -> None:
     alice, bob = people
     assert alice.until(0, "register", "Łucja@Example.com", "age1first")[0]["key"] == "age1first"
     assert bob.until(0, "lookup", "łucja@example.COM")[0]["change"] is None
-    assert bob.until(0, "verify", "łucja@example.com", "age1first") and bob.until(1, "verify", "łucja@example.com", "age1x")
+    assert bob.until(0, "verify", "łucja@example.com", "--key", "age1first") and bob.until(
+        1, "verify", "łucja@example.com", "--key", "age1x"
+    )
     assert alice.until(0, "register", "łucja@example.com", "age1second")[0]["key"] == "age1second"
     assert bob.until(0, "lookup", "łucja@example.com")[0]["change"] == "vouched"
     first_epoch = alice.until(0, "watch")[0]["epochs"][0]
@@ -98,9 +100,9 @@ def test_life(people: list[Person], service: Running) -> None:
 def test_service_keeps_its_promise(service: Running) -> None:
     """The policy of a service that is made so promises records, and the service takes no other key, whoever has a token."""
     policy = Policy.read(service.get("/v1/policy").body)
-    place = Place(policy.digest, "vouched")
+    place = Place.of(policy, "vouched")
     record, other = (first(place, it, b"key") for it in (OWNER, THIEF))
-    assert policy.records_vouched and b"\nrecords vouched\nproofs-kept " in bytes(policy)
+    assert policy.records_vouched and b"\nrecords vouched\nsuccessor-key none\nproofs-kept " in bytes(policy)
     for wrong in [record[:-1] + b"x", following(place, OWNER, record, b"key"), b"plain"]:
         refused = service.operate("register", "vouched", wrong)
         assert (refused.status, refused.fault) == (403, "Forbidden") and "no record" in refused.json["detail"]
@@ -115,7 +117,7 @@ def test_service_without_a_promise(other: Running) -> None:
     other.start()
     policy = Policy.read(other.get("/v1/policy").body)
     assert not policy.records_vouched and b"records" not in bytes(policy)
-    assert other.operate("register", "alice", first(Place(policy.digest, "alice"), OWNER, b"key")).status == 200
+    assert other.operate("register", "alice", first(Place.of(policy, "alice"), OWNER, b"key")).status == 200
     assert other.operate("change", "alice", b"plain").status == 200
     refused = other.operate("register", "bob", b"plain", Authorization="Bearer x")
     assert refused.status == 403 and "record" not in refused.json["detail"]
@@ -148,7 +150,7 @@ def test_change_during_an_epoch(packages: None, program: str, tmp_path: Path) ->
     from endpoints import Endpoints
 
     with made(program, tmp_path, records_vouched=True) as holder:
-        place, between = Place(holder.keys.policy.digest, "alice"), list[provider.Operation]()
+        place, between = Place.of(holder.keys.policy, "alice"), list[provider.Operation]()
         record = first(place, OWNER, b"key")
         one, other = (following(place, OWNER, record, it) for it in (b"one", b"other"))
         holder.provider.commit(2, [Register("alice", record)], force=True)
@@ -167,7 +169,7 @@ def test_change_during_an_epoch(packages: None, program: str, tmp_path: Path) ->
         between.append(provider.Change("alice", one))
         with pytest.raises(Problem, match="no record"):
             asyncio.run(sent(other))
-        assert shown_key(holder.provider.lookup("alice")) == one and judged(place, one, other) is Change.UNVOUCHED
+        assert shown_key(holder.provider.lookup("alice")) == one and judged(place, one, other, Span(3, 3, 4)) is Change.UNVOUCHED
         assert asyncio.run(sent(following(place, OWNER, one, b"two"))).status == 202
 
 

@@ -18,7 +18,7 @@ pytest.importorskip("nacl.signing")
 from authorising import Request
 from coniks.provider import Change, Register
 from coniks.vouching import Change as Found
-from coniks.vouching import Place, first, following, is_allowed, judged
+from coniks.vouching import Place, Span, first, following, is_allowed, judged
 from collecting import Collector, Judged, shown_key
 from holders import made
 from nacl.signing import SigningKey
@@ -32,7 +32,7 @@ class Racing:
     """Owners who send two next records of their names at random moments, while epochs end some ten times a second."""
 
     def __init__(self, holder: Any, monkeypatch: pytest.MonkeyPatch):
-        self.holder, self.policy, self.clock = holder, holder.keys.policy.digest, 1
+        self.holder, self.policy, self.clock = holder, holder.keys.policy, 1
         self.owners = {f"name{it}": SigningKey(it.to_bytes(32, "big")) for it in range(NAMES)}
         self.collector = Collector(holder, self.authorise)
         monkeypatch.setattr(type(holder.provider), "epoch_now", lambda _: self.clock)
@@ -40,7 +40,9 @@ class Racing:
     def authorise(self, request: Request) -> bool:
         """The rule of records, by someone who takes his time."""
         time.sleep(random.uniform(0, 0.06))
-        return request.operation is None or is_allowed(Place(self.policy, request.name), request.present, request.operation.key)
+        return request.operation is None or is_allowed(
+            Place.of(self.policy, request.name), request.present, request.operation.key, request.epoch
+        )
 
     def keys_of(self, name: str, epochs: Sequence[int]) -> list[bytes]:
         """The keys of a name at those of some epochs that have one."""
@@ -57,7 +59,7 @@ class Racing:
 
     async def both(self, name: str) -> int:
         """How many of two records of one number are stored."""
-        place, owner = Place(self.policy, name), self.owners[name]
+        place, owner = Place.of(self.policy, name), self.owners[name]
         [present] = self.keys_of(name, [self.holder.provider.latest().epoch])
         return sum(await asyncio.gather(*(self.send(name, following(place, owner, present, key)) for key in (b"one", b"other"))))
 
@@ -70,7 +72,7 @@ class Racing:
 
     async def run(self) -> list[int]:
         asyncio.get_running_loop().set_default_executor(ThreadPoolExecutor(2 * NAMES))
-        records = {name: first(Place(self.policy, name), owner, b"first") for name, owner in self.owners.items()}
+        records = {name: first(Place.of(self.policy, name), owner, b"first") for name, owner in self.owners.items()}
         ending = asyncio.create_task(self.epochs())
         registered = [await self.collector.take(Register(*it), {}) for it in records.items()]
         await asyncio.gather(*(it.outcome for it in registered))
@@ -92,7 +94,8 @@ def test_two_records_of_one_number(
         say(f"records: {len(stored)} races in {len(epochs)} epochs")
         for name in racing.owners:
             keys = racing.keys_of(name, epochs)
-            found = {judged(Place(racing.policy, name), *it) for it in zip(keys, keys[1:])}
+            place, spans = Place.of(racing.policy, name), [Span(it, it, it + 1) for it in range(len(keys))]
+            found = {judged(place, *it) for it in zip(keys, keys[1:], spans)}
             assert found == {Found.SAME, Found.VOUCHED}, name
 
 
