@@ -94,6 +94,7 @@ OF_CLIENTS = [
     "cases/second/replies.py",
     "cases/second/curve.py",
     "cases/second/policy.py",
+    "cases/second/successions.py",
     "embed/tests/client_sides.py",
 ]
 OF_JAVA = ["embed/java/**", "embed/c/client*", "embed/tests/java_clients.py", "embed/tests/native_clients.py", "include/*"]
@@ -102,10 +103,12 @@ OF_SIDES = ["include/coniks.h", "include/coniks_core.h", "formats.toml", "embed/
 OF_SIDES += [f"embed/tests/{it}.py" for it in ("conftest", "messages", "model", "running", "samples", "sides")]
 
 OF_CLIENT_IN_PYTHON = [
-    *package("client", "_core", "_memory", "_verdicts", "_messages", "_replies", "_ecvrf", "policy"),
+    *package("client", "_core", "_memory", "_verdicts", "_messages", "_replies", "_ecvrf", "policy", "succession"),
     "include/coniks_core.h",
 ]
-OF_CONTACTS = package("contacts", "_person", "_own_names", "_confirming", "_telling", "commands", "trust")
+OF_CONTACTS = package(
+    "contacts", "_person", "_own_names", "_confirming", "_telling", "_moving", "_going_on", "succession", "commands", "trust"
+)
 # What a replica is, and what makes the faults of a cluster.
 REPLICATED = ["replica", "postgres"]
 OF_FAULTS = [*tests("cluster", "cluster_faults"), "examples/cluster/node.py"]
@@ -157,7 +160,7 @@ PYTHON = [
     ),
     Part(
         "policies and clocks",
-        [*package("policy", "_host", "provider"), *tests("provider", "worked_examples"), FORMATS, STORED],
+        [*package("policy", "succession", "_host", "provider"), *tests("provider", "worked_examples"), FORMATS, STORED],
         tests("provider", "test_policies", "test_clocks"),
         library=True,
     ),
@@ -235,6 +238,12 @@ PYTHON = [
         library=True,
     ),
     Part(
+        "successions",
+        [*package("succession", "policy", "client"), *OF_CLIENTS, "cases/second/convicts"],
+        tests("client", "test_successions"),
+        library=True,
+    ),
+    Part(
         "interrupts of the client in Python",
         [*OF_CLIENT_IN_PYTHON, *tests("client", "made")],
         tests("client", "test_broken_off"),
@@ -249,12 +258,13 @@ PYTHON = [
     Part(
         "auditors",
         [
-            *package("audit", "notes", "_http", "_telling", "commands"),
+            *package("audit", "_ending", "succession", "notes", "_http", "_telling", "commands"),
             *tests("audit", "*"),
             "embed/python/bin/coniks-audit",
+            "cases/second/convicts",
             FORMATS,
         ],
-        tests("audit", "test_audit", "test_audit_verdicts", "test_notes"),
+        tests("audit", "test_audit", "test_audit_verdicts", "test_endings", "test_ending_worlds", "test_next", "test_notes"),
         library=True,
     ),
     Part(
@@ -266,7 +276,28 @@ PYTHON = [
             "embed/python/bin/coniks-client",
             FORMATS,
         ],
-        tests("contacts", "test_contacts", "test_confirming", "test_marks", "test_telling", "test_trust"),
+        tests(
+            "contacts",
+            "test_contacts",
+            "test_confirming",
+            "test_going_on",
+            "test_marks",
+            "test_resets",
+            "test_telling",
+            "test_trust",
+        ),
+        library=True,
+    ),
+    Part(
+        "a state on another device",
+        [
+            *package("_moving", "_client_state", "_files", "contacts"),
+            *tests("contacts", "conftest", "directories", "people"),
+            *(f"cases/second/{it}" for it in ("exports", "exported.py", "argon2id.py", "secretbox.py")),
+            "cases/exports.jsonl",
+            STORED,
+        ],
+        tests("contacts", "test_moving"),
         library=True,
     ),
     Part(
@@ -282,9 +313,10 @@ PYTHON = [
             *package("vouching", "policy"),
             *tests("contacts", "*"),
             *(f"cases/second/{it}" for it in ("vouched.py", "policy.py", "convicts")),
+            "cases/records.jsonl",
             FORMATS,
         ],
-        tests("contacts", "test_vouching"),
+        tests("contacts", "test_vouching", "test_reset_schedules"),
         library=True,
     ),
 ]
@@ -308,6 +340,10 @@ SERVICE = [
         "audit": "audit notes",
         "clients": "contacts _person _own_names _confirming vouching names",
         "records": "vouching",
+        "resets": "vouching",
+        "succession": "succession _engine _snapshot_lines",
+        "drill": "succession _going_on _ending audit",
+        "rotation": "succession _going_on",
         "operation": "log guard",
         "alarms": "audit",
         "load": "",
@@ -352,7 +388,7 @@ LANGUAGES = [
     Part(
         "the core of a client in C",
         ["include/coniks_core.h", "embed/c/core_stack.c", "embed/c/painted.h", *package("_core"), *CORE_TESTS, *OF_CLIENTS],
-        [f"embed/tests/{it}.py" for it in ("test_core", "test_core_quorum", "test_core_state_bytes", "test_core_states")],
+        [f"embed/tests/test_core{it}.py" for it in ("", "_quorum", "_state_bytes", "_states", "_succeed")],
         ["--alterations", "100"],
         library=True,
     ),
@@ -408,6 +444,7 @@ LANGUAGES = [
             "web/telling.mjs",
             "web/build",
             "cases/client/*",
+            "cases/records.jsonl",
             "web/tests/proofs.json",
             FORMATS,
             STORED,
@@ -511,6 +548,8 @@ CASES = [
     ),
     Part("forks", ["cases/second/*", "cases/evidence.jsonl"], ["cases/second/forks", "--check"]),
     Part("the cases of clients", ["cases/second/*", "cases/client/*"], ["cases/second/clients", "--check"]),
+    Part("exported states", ["cases/second/*", "cases/exports.jsonl"], ["cases/second/exports", "--check"]),
+    Part("the cases of records", ["cases/second/*", "cases/records.jsonl"], ["cases/second/records", "--check"]),
 ]
 
 REST = [

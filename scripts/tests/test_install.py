@@ -361,15 +361,15 @@ def test_command(room: Path, prefix: Path) -> None:
     install(room, prefix)
     helps = {it: run(prefix / "bin" / it, "--help", COLUMNS="200") for it in COMMANDS}
     assert all(it.returncode == 0 and not it.stderr for it in helps.values()), helps
-    commands = re.findall(r"^    (\w+)  ", helps["coniks-client"].stdout, re.M)
+    commands = re.findall(r"^    (\w+)(?:  |$)", helps["coniks-client"].stdout, re.M)
     assert re.findall(r"^\.It Cm (\w+)$", section("coniks-client", "DESCRIPTION"), re.M) == commands != []
     options = set[str]()
     for it in commands:
-        options |= {*re.findall(r"^  (?:-h, )?--([a-z]+)", run(prefix / "bin/coniks-client", it, "--help").stdout, re.M)}
-    assert {*re.findall(r"^\.It Fl (?:h , Fl )?-([a-z]+)", section("coniks-client", "OPTIONS"), re.M)} == options
+        options |= {*re.findall(r"^  (?:-h, )?--([a-z-]+)", run(prefix / "bin/coniks-client", it, "--help").stdout, re.M)}
+    assert {*re.findall(r"^\.It Fl (?:h , Fl )?-([a-z-]+)", section("coniks-client", "OPTIONS"), re.M)} == options
     for file in ["share/bash-completion/completions/coniks-client", "share/zsh/site-functions/_coniks-client"]:
         text = (prefix / file).read_text()
-        assert {*re.findall(r"--([a-z]+)", text)} == options and " ".join(commands) in text, file
+        assert {*re.findall(r"--([a-z][a-z-]*)", text)} == options and " ".join(commands) in text, file
 
 
 def test_audit(room: Path, prefix: Path) -> None:
@@ -383,7 +383,14 @@ def test_audit(room: Path, prefix: Path) -> None:
 
 @pytest.mark.parametrize(
     "word, wanted",
-    [("re", "register"), ("", "begin register lookup verify watch compare evidence note trust set --help --version")],
+    [
+        ("re", "register reset"),
+        (
+            "",
+            "begin register keep close reset adopt lookup fingerprint verify watch compare evidence note succeed trust set export import "
+            "--help --version",
+        ),
+    ],
 )
 def test_completion(word: str, wanted: str) -> None:
     """Bash completes the commands."""
