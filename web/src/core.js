@@ -80,9 +80,14 @@ export class Core {
     this.#alarms = new Rows(desk, ALARM, core + AT.alarms);
   }
 
-  /** What a call in another module needs. */
+  /** The memory of this client, for `succeeding.js`. */
   get parts() {
-    return { calls: this.#calls, desk: this.#desk, core: this.#core, chain: this.#chain, changes: this.#changes };
+    return { desk: this.#desk, core: this.#core, chain: this.#chain, changes: this.#changes };
+  }
+
+  /** @param {bigint} old @param {bigint} ending @param {bigint} received @param {bigint} place @returns {number} */
+  succeed(old, ending, received, place) {
+    return this.#calls.coniks_core_succeed(old, ending, received, this.#core, place);
   }
 
   // What calls take.

@@ -53,14 +53,14 @@ export async function goOn(chain, ended, ending, entry) {
  * @returns {{status: number, place: number}}
  */
 function succeeded(next, ended, { succession, isSigned }, first) {
-  const { calls, desk, core, chain, changes } = next.parts;
+  const { desk, chain, changes } = next.parts;
   chain.reserve(1);
   changes.reserve(1);
   const old = copyOf(ended, next);
   const [entry, length] = [desk.put(first.entry), BigInt(first.entry.length)];
   const received = desk.putWords([entry, length, BigInt(first.isSigned), first.time]);
   const [ending, place] = [desk.put(successionBytes(succession, isSigned)), desk.putWords(zeros(1))];
-  return { status: calls.coniks_core_succeed(old, ending, received, core, place), place: desk.number(place) };
+  return { status: next.succeed(old, ending, received, place), place: desk.number(place) };
 }
 
 /** A copy of a client in another one's memory: its name and its keys stay there. @param {Core} ended @param {Core} next @returns {bigint} */
