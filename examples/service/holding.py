@@ -141,7 +141,7 @@ def kept_of(period: int, kept: Optional[int]) -> int:
     stored = min(most, 90 * 86400) if kept is None else kept
     if not 0 <= stored <= most or not most:
         raise ValueError(
-            f"--kept {stored} at --period {period} would stop for want of memory: this machine has {most // max(1, period)} times "
+            f"--kept {stored} at --period {period} would run out of memory: this machine has {most // max(1, period)} times "
             f"the {EPOCH} bytes of an epoch, so take --kept {most} or less, or a longer --period. Neither can be changed later"
         )
     size = stored // period * EPOCH // 10**6

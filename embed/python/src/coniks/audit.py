@@ -49,7 +49,7 @@ __all__ = ["Alarm", "Audit", "Unusable", "main"]
 _LATE = 2
 # The most bytes of a succession with its cosignatures.
 _LONGEST = 1 << 16
-# Where an alarm is stored, and what is told of it if that is not its cause alone.
+# The verdict on a folder with the file of an alarm, and the verdicts on alarms whose cause has a sentence of its own.
 _FILES = {"alarm": Verdict.AUDIT_ALARM, "alarm.peer": Verdict.AUDIT_PEER_ALARM}
 _ALARMS = {
     "HEAD_DIFFERS": Verdict.AUDIT_PEER_ALARM,
